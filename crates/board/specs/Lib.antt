@@ -1,0 +1,5 @@
+pub mod Refusals
+pub mod Grids
+pub mod Ledger
+pub mod Banks
+pub mod Books

@@ -1,0 +1,3 @@
+pub mod Consequences
+pub mod Sameness
+pub mod Solver
