@@ -45,14 +45,14 @@ impl<'a, T: Copy> Bank<'a, T> {
     pub fn len(&self) -> usize
         ensures { λ r. ⌜ r ≡ length (now (now (self .entry) .cells)) ⌝ }
     {
-        self.cells.len()
+        self.cells().len()
     }
 
     // All cells, to be read.
     pub fn cells(&self) -> &[T]
         ensures { λ r. ⌜ now r ≡ now (now (self .entry) .cells) ⌝ }
     {
-        self.cells
+        &*self.cells
     }
 
     // What stands in cell i; nothing where there is no such cell.

@@ -19,26 +19,6 @@ impl Book {
         }
     }
 
-    pub fn grid(&self) -> Grid
-        ensures { λ r. ⌜ r ≡ now (self .entry) .grid ⌝ }
-    {
-        self.grid
-    }
-
-    // The absolute amounts of the accepted moves, added.
-    pub fn weight(&self) -> u32
-        ensures { λ r. ⌜ r ≡ now (self .entry) .weight ⌝ }
-    {
-        self.weight
-    }
-
-    // How many moves were accepted.
-    pub fn number(&self) -> u32
-        ensures { λ r. ⌜ r ≡ now (self .entry) .number ⌝ }
-    {
-        self.number
-    }
-
     // The first refusal that applies to a move, at this limit of weights; nothing changes.
     pub fn answer(&self, limit: u32, m: Move) -> Result<(), Refusal>
         ensures { λ r. ⌜ r ≡ bookAnswer limit (standing (now (self .entry))) m ⌝ }

@@ -22,34 +22,22 @@ impl Grid {
         })
     }
 
-    pub fn rows(self) -> u32
-        ensures { λ r. ⌜ r ≡ self .rows ⌝ }
-    {
-        self.rows
-    }
-
-    pub fn columns(self) -> u32
-        ensures { λ r. ⌜ r ≡ self .columns ⌝ }
-    {
-        self.columns
-    }
-
     // How many cells there are.
     pub fn cells(self) -> u32
         ensures { λ r. ⌜ r ≡ self .rows * self .columns ⌝ }
     {
-        self.rows * self.columns
+        self.rows() * self.columns()
     }
 
     pub fn row_of(self, cell: u64) -> u64
         ensures { λ r. ⌜ r ≡ rowOf (self .columns) cell ⌝ }
     {
-        cell / self.columns as u64
+        cell / u64::from(self.columns())
     }
 
     pub fn column_of(self, cell: u64) -> u64
         ensures { λ r. ⌜ r ≡ columnOf (self .columns) cell ⌝ }
     {
-        cell % self.columns as u64
+        cell % u64::from(self.columns())
     }
 }

@@ -6,6 +6,7 @@ mod book;
 mod game;
 mod grid;
 mod numbers;
+mod readings;
 mod refusal;
 
 pub use bank::Bank;

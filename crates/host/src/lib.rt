@@ -3,7 +3,7 @@ ghost use Rattle.host.specs.Notes.{HostKeepsLedger};
 
 mod end;
 mod listening;
-mod readings;
+mod sealed;
 
 pub use end::Listening;
 pub use end::Sealed;

@@ -71,6 +71,13 @@ impl<F: Field> Listening<F> {
         self.book.accept(limit, m)
     }
 
+    // The grid, and the weight and the number of the accepted moves.
+    pub fn book(&self) -> &Book
+        ensures { λ r. ⌜ now r ≡ now (self .entry) .book ⌝ }
+    {
+        &self.book
+    }
+
     // From here on the host answers questions and takes no more moves.
     pub fn seal(self) -> Sealed<F>
         ensures { λ r. ⌜ r .book ≡ self .book ⌝ }

@@ -50,16 +50,16 @@ returns c =
     let wide : SFits w64 (c .args .m .amount) = search needs in
     let narrow : SFits w32 (c .args .m .amount) = omega (arith, ints) in
     let by : toZ w32 (ofZ w32 (toZ w64 (ofZ w64 (c .args .m .amount)))) ≡ c .args .m .amount =
-        ap (λ z. toZ w32 (ofZ w32 z)) (toZ-ofZ w64 (c .args .m .amount) wide) ∙ toZ-ofZ w32 (c .args .m .amount) narrow in
+    ap (λ z. toZ w32 (ofZ w32 z)) (toZ-ofZ w64 (c .args .m .amount) wide) ∙ toZ-ofZ w32 (c .args .m .amount) narrow in
     let count-is : c .in-Some .count ≡ getD (c .args .bank .now .cells .now) (c .args .m .cell) (pos 0) = cc in
     let sized : natAbs (c .in-Some .count) ≤ 46340 = omega (arith, ap natAbs count-is, c .pre .light) in
     let fits : SFits w32 (c .in-Some .count +ℤ c .args .m .amount) = omega (arith, ints) in
     let sum : toZ w32 (ofZ w32 (toZ w32 (ofZ w32 (c .in-Some .count)) +ℤ toZ w32 (ofZ w32 (toZ w64 (ofZ w64 (c .args .m .amount)))))) ≡ getD (c .args .bank .now .cells .now) (c .args .m .cell) (pos 0) +ℤ c .args .m .amount =
-        ap (λ z. toZ w32 (ofZ w32 z)) (ap₂ _+ℤ_ t by) ∙ toZ-ofZ w32 _ fits ∙ ap (λ z. z +ℤ c .args .m .amount) count-is in
+    ap (λ z. toZ w32 (ofZ w32 z)) (ap₂ _+ℤ_ t by) ∙ toZ-ofZ w32 _ fits ∙ ap (λ z. z +ℤ c .args .m .amount) count-is in
     let put : c .put .result ≡ Ok tt = c .put .ensures .answer ∙ ap (λ b. cond b (Ok tt) (Err BankShort)) within in
     record {
       answer = put ∙ ap (λ b. cond b (Ok tt) (Err CountOutside)) (sym test);
       bank = c .put .ensures .cells ∙ ap (set (c .args .bank .now .cells .now) (c .args .m .cell)) sum
-        ∙ sym (ap (λ r. keptOr r (c .args .bank .now .cells .now) (addedCount (c .args .bank .now .cells .now) (c .args .m))) put);
+          ∙ sym (ap (λ r. keptOr r (c .args .bank .now .cells .now) (addedCount (c .args .bank .now .cells .now) (c .args .m))) put);
       lender = c .put .ensures .lender;
     }
