@@ -1,12 +1,12 @@
 -- The extended Euclidean algorithm modulo a prime. Assumes nothing.
 use mathlib.Core.Path.{_≡_, refl, sym, ap, _∙_, subst}
-use mathlib.Core.Logic.{_⊎_, inl, inr, ⊎-elim, _≢_}
-use Prim.Native.Nat.{ℕ, zero, suc, _+_, _*_, _-_, _/_, _%_, _<_, _≤_}
-use native.Mathlib.Nat.{add-mul, mul-add, mul-assoc, mul-comm, mod-self, zero-mod, mod-lt, mod-mod, mod-eq-of-lt, mod-add-mod, add-mod-mod, div-add-mod, not-suc-le-zero, add-mul-mod-self-left}
+use mathlib.Core.Logic.{⊎-elim, _≢_}
+use Prim.Native.Nat.{ℕ, zero, suc, _+_, _*_, _-_, _/_, _%_, _<_}
+use native.Mathlib.Nat.{mod-self, zero-mod, mod-lt, mod-eq-of-lt, mod-add-mod, add-mod-mod, div-add-mod, not-suc-le-zero, add-mul-mod-self-left}
 use native.Mathlib.Omega.{arith}
 use Rattle.prime.specs.Primes.{Prime}
 use Rattle.prime.specs.Residues.{euclid}
-use Rattle.prime.proofs.Remainders.{mod-mul-mod, mul-mod-mod, cancel-mod, mods}
+use Rattle.prime.proofs.Remainders.{mod-mul-mod, cancel-mod}
 
 -- r₀ and r₁ are t₀ and t₁ times x, and what divides both divides p and x
 pub record Euclid (p x r₀ r₁ t₀ t₁ : ℕ) : Type 0 where

@@ -1,5 +1,5 @@
 -- The residues modulo a prime are a lawful field. Assumes nothing.
-use mathlib.Core.Path.{_≡_, refl, sym, ap, ap₂, _∙_, subst}
+use mathlib.Core.Path.{_≡_, refl, sym, ap, ap₂, _∙_}
 use mathlib.Core.Bool.{Bool, true, false, cond}
 use mathlib.Core.Logic.{_≢_, inl}
 use mathlib.Core.List.{[], _∷_}
@@ -9,7 +9,7 @@ use native.Mathlib.Omega.{arith}
 use lib.Dec.{ltb}
 use lib.IntN.{ℤ, pos, negsuc, negℤ, subℕ, _+ℤ_, _*ℤ_}
 use borrow.Author.Tests.{ltb-true, ltb-false}
-use Rattle.field.specs.Field.{FieldModel, Ring, Images, Inverses, Parts, Bounds, LawfulField, modulo, InRange}
+use Rattle.field.specs.Field.{Ring, Images, Inverses, Parts, LawfulField}
 use Rattle.field.proofs.Consequences.{inv-unique}
 use Rattle.field.proofs.Solver as ring
 use Rattle.field.proofs.Solver.{sides, solve}

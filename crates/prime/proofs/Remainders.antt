@@ -1,9 +1,9 @@
 -- Remainders. Assumes nothing.
-use mathlib.Core.Path.{_≡_, refl, sym, ap, _∙_, subst}
+use mathlib.Core.Path.{_≡_, refl, sym, ap, _∙_}
 use mathlib.Core.Bool.{true, false}
 use mathlib.Core.Logic.{_⊎_, inl, inr, ⊎-elim}
-use Prim.Native.Nat.{ℕ, zero, suc, _+_, _*_, _-_, _/_, _%_, _<_, _≤_}
-use native.Mathlib.Nat.{eq-or-lt-of-le, suc-mod, mod-eq-sub-mod, mod-eq-of-lt, add-mul, mul-add, mul-assoc, mul-comm, mul-one, add-assoc, div-add-mod, mod-lt, mod-mod, mod-add-mod, add-mod-mod, mod-self, mul-add-mod-self-left, add-mul-mod-self-left}
+use Prim.Native.Nat.{ℕ, suc, _+_, _*_, _-_, _/_, _%_, _<_, _≤_}
+use native.Mathlib.Nat.{eq-or-lt-of-le, suc-mod, mod-eq-sub-mod, mod-eq-of-lt, add-mul, mul-add, mul-assoc, mul-comm, div-add-mod, mod-lt, mod-mod, mod-add-mod, add-mod-mod, mod-self, mul-add-mod-self-left, add-mul-mod-self-left}
 use native.Mathlib.Omega.{arith}
 use lib.IntN.{ℤ, pos, negsuc, natAbs}
 use lib.Signed.{ltZ}
@@ -17,8 +17,6 @@ mod-mul-mod n k p =
 
 pub mul-mod-mod : (n k p : ℕ) → (n * (k % p)) % p ≡ (n * k) % p
 mul-mod-mod n k p = ap (λ z. z % p) (mul-comm n (k % p)) ∙ mod-mul-mod k n p ∙ ap (λ z. z % p) (mul-comm k n)
-
-pub ruleset mods = (mod-mul-mod, mul-mod-mod, mod-add-mod, add-mod-mod, mod-mod)
 
 -- the residue that a residue and c come to 0 with
 drop-out : (a c p : ℕ) → 0 < p → (a + c + (p - c % p)) % p ≡ a % p

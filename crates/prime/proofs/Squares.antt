@@ -1,47 +1,20 @@
 -- Numbers that are no squares modulo a prime. Assumes nothing.
 use mathlib.Core.Path.{_≡_, refl, sym, ap, _∙_, subst}
-use mathlib.Core.Bool.{Bool, true, false, not, _&&_}
+use mathlib.Core.Bool.{Bool, true}
 use mathlib.Core.Logic.{_⊎_, inl, inr, ⊎-elim, _≢_}
 use Prim.Native.Nat.{ℕ, zero, suc, _+_, _*_, _-_, _/_, _%_, _<_, _≤_}
 use native.Mathlib.Nat.{div-add-mod, mod-lt, mod-add-mod, mul-le-mul, not-suc-le-zero, eq-or-lt-of-le, add-mul-mod-self-right, mul-add-mod-self-right, mul-mod-right, mul-comm, mul-add-mod-self-left}
 use native.Mathlib.Omega.{arith}
-use lib.Dec.{T, eqb, eqb-refl, lit<}
+use lib.Dec.{T, eqb, lit<}
+use Rattle.prime.proofs.Nowhere.{nowhere-below}
 use Rattle.prime.proofs.Remainders.{mod-mul-mod, mul-mod-mod}
 
--- none of the n numbers below n has the square w modulo p
-abbrev pub unsquared : ℕ → ℕ → ℕ → Bool → Bool
-unsquared p w zero so-far = so-far
-unsquared p w (suc n) so-far = unsquared p w n (so-far && not (eqb ((n * n) % p) w))
-
-left : (a b : Bool) → T (a && b) → T a
-left true b t = tt
-left false b t = t
-
-right : (a b : Bool) → T (a && b) → T b
-right true b t = t
-right false b t = absurd t
-
-earlier : (p w n : ℕ) (so-far : Bool) → T (unsquared p w n so-far) → T so-far
-earlier p w zero so-far t = t
-earlier p w (suc n) so-far t = left so-far (not (eqb ((n * n) % p) w)) (earlier p w n (so-far && not (eqb ((n * n) % p) w)) t)
-
-refuted : (a w : ℕ) → T (not (eqb a w)) → a ≢ w
-refuted a w t e = absurd (no-both (eqb a w) t (subst (λ (z : ℕ). T (eqb a z)) e (eqb-refl a)))
-  where
-    no-both : (b : Bool) → T (not b) → T b → ⊥
-    no-both true t s = t
-    no-both false t s = s
-
-pub no-square-by-test : (p w n : ℕ) (so-far : Bool) → T (unsquared p w n so-far) → (k : ℕ) → k < n → (k * k) % p ≢ w
-no-square-by-test p w zero so-far t k h = absurd (not-suc-le-zero h)
-no-square-by-test p w (suc n) so-far t k h =
-    ⊎-elim
-    (λ e. subst (λ (z : ℕ). (z * z) % p ≢ w) (sym e) (refuted ((n * n) % p) w (right so-far (not (eqb ((n * n) % p) w)) (earlier p w n (so-far && not (eqb ((n * n) % p) w)) t))))
-    (λ l. no-square-by-test p w n (so-far && not (eqb ((n * n) % p) w)) t k l)
-    (eq-or-lt-of-le {n = k} {m = n} (omega arith))
+-- k times k is w modulo p
+abbrev squares : ℕ → ℕ → ℕ → Bool
+squares p w k = eqb ((k * k) % p) w
 
 pub three-65537 : (k : ℕ) → k < 65537 → (k * k) % 65537 ≢ 3
-three-65537 = no-square-by-test 65537 3 65537 true tt
+three-65537 k h e = nowhere-below (squares 65537 3) 65537 true tt k h (subst (λ (z : ℕ). T (eqb z 3)) (sym e) tt)
 
 below-two : (j : ℕ) → j < 2 → (j ≡ 0) ⊎ (j ≡ 1)
 below-two zero h = inl refl

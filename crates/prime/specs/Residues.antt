@@ -1,9 +1,7 @@
 -- Residues modulo P: the operations of a prime field. Assumes nothing.
-use mathlib.Core.Path.{_≡_}
 use Prim.Native.Nat.{ℕ, zero, suc, _+_, _*_, _-_, _/_, _%_, _<_}
 use native.Mathlib.Nat.{mod-lt}
 use native.Mathlib.Omega.{arith}
-use lib.IntN.{ℤ}
 use Rattle.field.specs.Field.{FieldModel, modulo}
 use Rattle.prime.specs.declared.residue.Residue.{Residue}
 
