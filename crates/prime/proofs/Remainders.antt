@@ -3,7 +3,7 @@ use mathlib.Core.Path.{_≡_, refl, sym, ap, _∙_}
 use mathlib.Core.Bool.{true, false}
 use mathlib.Core.Logic.{_⊎_, inl, inr, ⊎-elim}
 use Prim.Native.Nat.{ℕ, suc, _+_, _*_, _-_, _/_, _%_, _<_, _≤_}
-use native.Mathlib.Nat.{eq-or-lt-of-le, suc-mod, mod-eq-sub-mod, mod-eq-of-lt, add-mul, mul-add, mul-assoc, mul-comm, div-add-mod, mod-lt, mod-mod, mod-add-mod, add-mod-mod, mod-self, mul-add-mod-self-left, add-mul-mod-self-left}
+use native.Mathlib.Nat.{eq-or-lt-of-le, suc-mod, mod-eq-sub-mod, mod-eq-of-lt, add-mul, mul-add, mul-assoc, mul-comm, div-add-mod, mod-lt, mod-add-mod, add-mod-mod, mod-self, mul-add-mod-self-left, add-mul-mod-self-left}
 use native.Mathlib.Omega.{arith}
 use lib.IntN.{ℤ, pos, negsuc, natAbs}
 use lib.Signed.{ltZ}

@@ -3,7 +3,7 @@ use mathlib.Core.Path.{_≡_, refl, sym, ap, _∙_, subst}
 use mathlib.Core.Bool.{Bool, true}
 use mathlib.Core.Logic.{_⊎_, inl, inr, ⊎-elim, _≢_}
 use Prim.Native.Nat.{ℕ, zero, suc, _+_, _*_, _-_, _/_, _%_, _<_, _≤_}
-use native.Mathlib.Nat.{div-add-mod, mod-lt, mod-add-mod, mul-le-mul, not-suc-le-zero, eq-or-lt-of-le, add-mul-mod-self-right, mul-add-mod-self-right, mul-mod-right, mul-comm, mul-add-mod-self-left}
+use native.Mathlib.Nat.{div-add-mod, mod-lt, mod-add-mod, mul-le-mul, not-suc-le-zero, add-mul-mod-self-right, mul-add-mod-self-right, mul-mod-right, mul-comm, mul-add-mod-self-left}
 use native.Mathlib.Omega.{arith}
 use lib.Dec.{T, eqb, lit<}
 use Rattle.prime.proofs.Nowhere.{nowhere-below}
