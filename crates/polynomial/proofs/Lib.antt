@@ -1,0 +1,11 @@
+pub mod Evals
+pub mod Roots
+pub mod Counts
+pub mod Nodes
+pub mod Excepts
+pub mod Lagrange
+pub mod OnePass
+pub mod Sums
+pub mod Columns
+pub mod Limits
+pub mod Steps
