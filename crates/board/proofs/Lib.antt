@@ -1,0 +1,4 @@
+pub mod Fills
+pub mod Ledgers
+pub mod Opens
+pub mod Traces

@@ -1,4 +1,5 @@
 -- What an end keeps of its grid and of the moves that it accepted, and what opening an end answers. Assumes nothing.
+use mathlib.Core.Path.{_≡_}
 use mathlib.Core.Bool.{cond}
 use mathlib.Core.List.{List}
 use Prim.Native.Nat.{ℕ, suc, _+_}
@@ -6,6 +7,7 @@ use lib.IntN.{natAbs}
 use Rattle.std.specs.declared.result.Result.{Result}
 use Rattle.std.specs.declared.result.Result.the-variants.{Ok, Err}
 use Rattle.board.specs.declared.game.Book.{Book}
+use Rattle.board.specs.declared.game.Grid.{Grid}
 use Rattle.board.specs.declared.game.Move.{Move}
 use Rattle.board.specs.declared.refusal.Refusal.{Refusal}
 use Rattle.board.specs.declared.refusal.Refusal.the-variants.{GridOutside}
@@ -39,6 +41,15 @@ entered s m = record { rows = s .rows; columns = s .columns; weight = s .weight 
 -- a move is answered as a ledger of this weight answers it
 abbrev pub bookAnswer : ℕ → Standing → Move → Result (Unit {0}) Refusal
 bookAnswer W s m = moveAnswer (s .rows) (s .columns) W (s .weight) m
+
+-- whether the grid is allowed
+abbrev pub gridAnswer : ℕ → ℕ → Result (Unit {0}) Refusal
+gridAnswer h v = cond (gridAllowed h v) (Ok tt) (Err GridOutside)
+
+-- the grid of h rows and v columns, or the refusal where it is not allowed
+abbrev pub Laid : ℕ → ℕ → Result Grid Refusal → Type 0
+Laid h v (Ok g) = (gridAnswer h v ≡ Ok tt) × (g .rows ≡ h) × (g .columns ≡ v)
+Laid h v (Err r) = gridAnswer h v ≡ Err r
 
 -- open on h rows and v columns with a bank of which n cells are wanted
 abbrev pub openAnswer : {A : Type 0} → ℕ → ℕ → ℕ → List A → Result (Unit {0}) Refusal

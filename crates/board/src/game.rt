@@ -22,6 +22,7 @@ pub struct Move {
 }
 
 // What an end keeps of its game: the grid, the weight of the accepted moves, and their number.
+#[derive(Drop)]
 pub struct Book {
     pub(crate) grid: Grid,
     pub(crate) weight: u32,

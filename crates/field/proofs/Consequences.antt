@@ -1,8 +1,9 @@
 -- What follows from a field's laws: one differs from zero, inverses are unique, images of opposites and differences. Assumes nothing else.
 use mathlib.Core.Path.{_≡_, refl, sym, ap, _∙_}
 use mathlib.Core.Logic.{_≢_}
-use Prim.Native.Nat.{ℕ, zero, suc, _-_, _%_, _<_, _≤_}
-use native.Mathlib.Nat.{mod-eq-of-lt}
+use Prim.Native.Nat.{ℕ, zero, suc, _*_, _-_, _%_, _<_, _≤_}
+use native.Mathlib.Nat.{mod-eq-of-lt, mul-le-mul}
+use native.Mathlib.Decide.{decLt}
 use native.Mathlib.Omega.{arith}
 use lib.IntN.{ℤ, pos, negsuc, negℤ, natAbs, _+ℤ_, _-ℤ_, +ℤ-invr}
 use Rattle.field.specs.Field.{FieldModel, LawfulField, InRange}
@@ -57,3 +58,13 @@ module _ {K : Type 0} {F : FieldModel K} (L : LawfulField F) where
 
   pub image-sub : (m n : ℤ) → InRange m → InRange n → InRange (m -ℤ n) → F .image (m -ℤ n) ≡ F .add (F .image m) (F .neg (F .image n))
   image-sub m n hm hn h = L .images .of-add m (negℤ n) hm (omega (arith, abs-neg n)) h ∙ ap (F .add (F .image m)) (image-neg n hn)
+
+  -- a limit whose square is below the characteristic is at most 46,340
+  pub limit-small : F .limit ≤ 46340
+  limit-small = go (decLt 46340 (F .limit))
+    where
+      go : Dec (46340 < F .limit) → F .limit ≤ 46340
+      go (yes h) =
+          let k : 46341 * 46341 ≤ F .limit * F .limit = mul-le-mul {n₁ = 46341} {m₁ = 46341} {n₂ = F .limit} {m₂ = F .limit} h h in
+          absurd (omega (arith, k, L .bounds .limit-most, L .bounds .characteristic-most))
+      go (no h) = omega arith

@@ -1,0 +1,6 @@
+// The quadratic extension of any base field.
+pub mod pair;
+pub mod quadratic;
+
+pub use pair::Extension;
+pub use quadratic::ExtensionField;

@@ -1,0 +1,18 @@
+use mathlib.Core.Path.{_≡_, sym, _∙_}
+use Prim.Native.Nat.{_+_, _%_}
+use native.Mathlib.Nat.{mod-eq-of-lt}
+use native.Mathlib.Omega.{arith}
+use Rattle.prime.proofs.Equality.{residue-path}
+use Rattle.prime.proofs.Remainders.{over-mod}
+use Rattle.prime.proofs.residue.Residue.plus.Needs as need
+use Rattle.prime.proofs.residue.Residue.plus.Needs.{then-total, else-total}
+
+pub returns : need.returns
+returns g c =
+    let total = c .args .self .value + c .args .other .value in
+    let is : c .if-total .value ≡ total % g .P =
+    elim (c .if-total .came) [
+      | then-total w ↦ w .value-is ∙ sym (mod-eq-of-lt (w .if-total .taken))
+      | else-total w ↦ w .value-is ∙ over-mod total (g .P) (w .if-total .left) (omega arith)
+    ] in
+    residue-path is
