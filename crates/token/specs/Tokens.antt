@@ -1,4 +1,5 @@
 -- The bytes of a sheet, cut into tokens, with the line and the place of each. Assumes nothing.
+use mathlib.Core.Path.{_≡_}
 use mathlib.Core.Bool.{Bool, true, false, cond, _&&_, _||_}
 use mathlib.Core.List.{List, [], _∷_}
 use Prim.Native.Nat.{ℕ, suc, _+_, _-_, _*_}
@@ -6,6 +7,7 @@ use lib.Dec.{eqb, leb}
 use lib.IntN.{ℤ, pos, negℤ}
 use lib.ListN.{length, drop}
 use Rattle.std.specs.Text.{asciiLower, asciiDigit}
+use Rattle.std.specs.shelf.Text.{sameBytes}
 use Rattle.std.specs.declared.option.Option.{Option}
 use Rattle.std.specs.declared.option.Option.the-variants.{Some, None}
 
@@ -22,6 +24,16 @@ leadingRun (b ∷ bs) = cond (isStop b) [] (b ∷ leadingRun bs)
 abbrev pub leadingSpaces : List ℕ → ℕ
 leadingSpaces [] = 0
 leadingSpaces (b ∷ bs) = cond (eqb b 32) (suc (leadingSpaces bs)) 0
+
+-- no run goes on here: at the end, or at a byte that ends runs
+abbrev pub RunEnded : List ℕ → Type 0
+RunEnded [] = Unit {0}
+RunEnded (b ∷ bs) = isStop b ≡ true
+
+-- how many line ends there are
+abbrev pub lineEndsIn : List ℕ → ℕ
+lineEndsIn [] = 0
+lineEndsIn (b ∷ bs) = cond (eqb b 10) (suc (lineEndsIn bs)) (lineEndsIn bs)
 
 -- whether a test holds of each byte
 abbrev pub eachByte : (ℕ → Bool) → List ℕ → Bool
@@ -79,6 +91,34 @@ classed bs = cond (isWord bs) (word bs) (numeric bs (numberOf bs))
 abbrev pub tokenAt : List ℕ → Token
 tokenAt [] = sheetEnd
 tokenAt (b ∷ bs) = cond (eqb b 40) opening (cond (eqb b 41) closing (cond (eqb b 10) lineEnd (classed (leadingRun (b ∷ bs)))))
+
+-- the kinds of token, numbered
+abbrev pub kind : Token → ℕ
+kind opening = 0
+kind closing = 1
+kind lineEnd = 2
+kind sheetEnd = 3
+kind (word bs) = 4
+kind (number bs z) = 5
+kind (malformed bs) = 6
+
+-- the bytes of a run
+abbrev pub spelling : Token → List ℕ
+spelling opening = []
+spelling closing = []
+spelling lineEnd = []
+spelling sheetEnd = []
+spelling (word bs) = bs
+spelling (number bs z) = bs
+spelling (malformed bs) = bs
+
+-- tokens of one kind, with the same bytes
+abbrev pub alike : Token → Token → Bool
+alike x t = eqb (kind x) (kind t) && sameBytes (spelling x) (spelling t)
+
+-- a run that is neither a word nor a number
+abbrev pub isMalformed : Token → Bool
+isMalformed t = eqb (kind t) 6
 
 -- how many bytes a token takes
 abbrev pub width : Token → ℕ
