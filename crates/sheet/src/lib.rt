@@ -1,0 +1,8 @@
+// Sheets: the grammar, and reading a sheet into a tray.
+mod due;
+mod expect;
+mod keyword;
+mod terms;
+
+pub use keyword::Keyword;
+pub use terms::Terms;
