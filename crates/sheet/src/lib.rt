@@ -2,6 +2,7 @@
 mod due;
 mod expect;
 mod keyword;
+mod lines;
 mod terms;
 
 pub use keyword::Keyword;
