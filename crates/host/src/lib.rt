@@ -5,6 +5,7 @@ mod columns;
 mod end;
 mod listening;
 mod sealed;
+mod values;
 
 pub use end::Listening;
 pub use end::Sealed;
