@@ -1,0 +1,4 @@
+pub mod Seen
+pub mod Traces
+pub mod Parts
+pub mod Sheets
