@@ -2,3 +2,4 @@ pub mod Seen
 pub mod Traces
 pub mod Parts
 pub mod Sheets
+pub mod Faults
