@@ -1,0 +1,3 @@
+// Writing a sheet onto paper.
+mod mark;
+mod put;
