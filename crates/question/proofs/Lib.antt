@@ -1,5 +1,7 @@
 pub mod Grids
 pub mod Bounds
+pub mod Tallies
+pub mod Rules
 pub mod CellsLaw
 pub mod GoodsLaw
 pub mod SquaresLaw
