@@ -4,6 +4,7 @@ mod claims;
 mod goods;
 mod interface;
 mod outcome;
+mod range;
 mod squares;
 
 pub use cell::Cell;
@@ -13,5 +14,7 @@ pub use goods::GoodsQuestion;
 pub use interface::Question;
 pub use outcome::Fit;
 pub use outcome::Tag;
+pub use range::Range;
+pub use range::RangeQuestion;
 pub use squares::Squares;
 pub use squares::SquaresQuestion;
