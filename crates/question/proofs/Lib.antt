@@ -6,3 +6,4 @@ pub mod Ranges
 pub mod CellsLaw
 pub mod GoodsLaw
 pub mod SquaresLaw
+pub mod SeasonLaw

@@ -83,7 +83,7 @@ module _ {K : Type 0} {F : FieldModel K} (L : LawfulField F) where
     row-part x y m b =
         sum-shift L (x * v) y m at
         ∙ sum-cong L y m (λ k. at (x * v + k)) (λ k. F .mul (chi F h x X) (getD cs k (F .zero)))
-          (λ k p q. let c : k < v = omega arith in ap₂ (λ r s. F .mul (chi F h r X) (getD cs s (F .zero))) (digits-div x c) (digits-mod x c))
+        (λ k p q. let c : k < v = omega arith in ap₂ (λ r s. F .mul (chi F h r X) (getD cs s (F .zero))) (digits-div x c) (digits-mod x c))
         ∙ scale-left y m (chi F h x X) (λ k. getD cs k (F .zero))
         ∙ ap (F .mul (chi F h x X)) (places-sum y m cs (omega arith))
 
@@ -109,7 +109,7 @@ module _ {K : Type 0} {F : FieldModel K} (L : LawfulField F) where
       -- the range lies in several rows: the rest of the first, the rows between, the beginning of the last
       pub in-several-rows : a / v < b / v → cellsRule F h v (cellsBetween a b) X cs
           ≡ F .add (F .mul (chi F h (a / v) X) (listSum F (take (v - a % v) (drop (a % v) cs))))
-            (F .add (F .mul (sumFrom F (a / v + 1) (b / v - (a / v + 1)) (λ k. chi F h k X)) (listSum F cs)) (F .mul (chi F h (b / v) X) (listSum F (take (b % v + 1) cs))))
+          (F .add (F .mul (sumFrom F (a / v + 1) (b / v - (a / v + 1)) (λ k. chi F h k X)) (listSum F cs)) (F .mul (chi F h (b / v) X) (listSum F (take (b % v + 1) cs))))
       in-several-rows lt =
           let x = a / v in
           let y = a % v in
@@ -126,6 +126,6 @@ module _ {K : Type 0} {F : FieldModel K} (L : LawfulField F) where
           cells-sum a (suc b - a) ∙ ap (λ k. sumFrom F a k at) len
           ∙ sum-split L a (v - y) (n * v + (b % v + 1)) at
           ∙ ap₂ (F .add)
-            (ap (λ i. sumFrom F i (v - y) at) (sym p) ∙ row-part x y (v - y) (omega arith))
-            (ap (λ i. sumFrom F i (n * v + (b % v + 1)) at) next ∙ sum-split L ((x + 1) * v) (n * v) (b % v + 1) at
-            ∙ ap₂ (F .add) (whole-rows (x + 1) n) (ap (λ i. sumFrom F i (b % v + 1) at) last ∙ row-part (b / v) 0 (b % v + 1) (omega arith)))
+          (ap (λ i. sumFrom F i (v - y) at) (sym p) ∙ row-part x y (v - y) (omega arith))
+          (ap (λ i. sumFrom F i (n * v + (b % v + 1)) at) next ∙ sum-split L ((x + 1) * v) (n * v) (b % v + 1) at
+          ∙ ap₂ (F .add) (whole-rows (x + 1) n) (ap (λ i. sumFrom F i (b % v + 1) at) last ∙ row-part (b / v) 0 (b % v + 1) (omega arith)))

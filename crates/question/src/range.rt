@@ -106,6 +106,12 @@ pub impl<F: Field> Question<F> for Range as RangeQuestion {
     }
 
     fn rule(&self, grid: Grid, point: F, columns: &[F]) -> F {
-        rows_rule(grid, u64::from(self.first), u64::from(self.last), point, columns)
+        rows_rule(
+            grid,
+            u64::from(self.first),
+            u64::from(self.last),
+            point,
+            columns,
+        )
     }
 }

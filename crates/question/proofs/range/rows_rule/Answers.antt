@@ -56,8 +56,8 @@ returns g c =
     let top = c .basis-at-top .ensures ∙ ap₂ (λ r k. chi F r k X) (c .rows-rows .ensures) (c .row-of-x .ensures) in
     let bottom = c .basis-at .ensures ∙ ap₂ (λ r k. chi F r k X) (c .rows-rows .ensures) (c .row-of-last-x .ensures) in
     let between = c .basis-total .ensures
-            ∙ ap₂ (λ j m. sumFrom F j m (λ k. chi F (c .rows-rows .result) k X)) (ap (λ x. x + 1) (c .row-of-x .ensures)) n
-            ∙ ap (λ r. sumFrom F (a / v + 1) (b / v - (a / v + 1)) (λ k. chi F r k X)) (c .rows-rows .ensures) in
+    ∙ ap₂ (λ j m. sumFrom F j m (λ k. chi F (c .rows-rows .result) k X)) (ap (λ x. x + 1) (c .row-of-x .ensures)) n
+    ∙ ap (λ r. sumFrom F (a / v + 1) (b / v - (a / v + 1)) (λ k. chi F r k X)) (c .rows-rows .ensures) in
     let first = c .total-2 .ensures ∙ ap₂ (λ m k. listSum F (take m (drop k cs))) first-part (c .column-of-y .ensures) in
     let last = c .total-4 .ensures ∙ ap (λ m. listSum F (take m cs)) last-part in
     let head = c .product-head .ensures ∙ ap₂ (F .mul) top first in
