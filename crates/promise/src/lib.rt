@@ -1,0 +1,1 @@
+// What a host and a verifier promise together, over every lawful field.
