@@ -51,6 +51,11 @@ abbrev pub Laid : ℕ → ℕ → Result Grid Refusal → Type 0
 Laid h v (Ok g) = (gridAnswer h v ≡ Ok tt) × (g .rows ≡ h) × (g .columns ≡ v)
 Laid h v (Err r) = gridAnswer h v ≡ Err r
 
+-- whether a call was granted, or its refusal
+abbrev pub granted : {A : Type 0} → Result A Refusal → Result (Unit {0}) Refusal
+granted (Ok x) = Ok tt
+granted (Err r) = Err r
+
 -- open on h rows and v columns with a bank of which n cells are wanted
 abbrev pub openAnswer : {A : Type 0} → ℕ → ℕ → ℕ → List A → Result (Unit {0}) Refusal
 openAnswer h v n bank = cond (gridAllowed h v) (roomFor n bank) (Err GridOutside)

@@ -7,11 +7,6 @@ use Rattle.board.specs.declared.refusal.Refusal.{Refusal}
 use Rattle.board.specs.Books.{standing, newStanding}
 use Rattle.host.specs.declared.end.Listening.{Listening}
 
--- whether a call was granted, or its refusal
-abbrev pub granted : {A : Type 0} → Result A Refusal → Result (Unit {0}) Refusal
-granted (Ok x) = Ok tt
-granted (Err r) = Err r
-
 -- a host that was opened stands at the start of a game on the grid
 abbrev pub Opened : {F : Type 0} → ℕ → ℕ → Result (Listening F) Refusal → Type 0
 Opened h v (Ok host) = standing (host .book) ≡ newStanding h v

@@ -7,5 +7,4 @@ pub mod Lagrange
 pub mod OnePass
 pub mod Sums
 pub mod Columns
-pub mod Limits
 pub mod Steps

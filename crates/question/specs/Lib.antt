@@ -1,0 +1,4 @@
+pub mod Question
+pub mod Cells
+pub mod GoodsSums
+pub mod SquareSums

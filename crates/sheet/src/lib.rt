@@ -1,0 +1,9 @@
+// Sheets: the grammar, and reading a sheet into a tray.
+mod due;
+mod expect;
+mod keyword;
+mod lines;
+mod terms;
+
+pub use keyword::Keyword;
+pub use terms::Terms;
