@@ -1,2 +1,9 @@
 pub mod Runs
 pub mod Shapes
+pub mod Lists
+pub mod Values
+pub mod Judgements
+pub mod Answers
+pub mod Ends
+pub mod Boxes
+pub mod FalseClaims

@@ -1,3 +1,10 @@
 pub mod Runs
 pub mod Ledgers
 pub mod Shapes
+pub mod Counts
+pub mod Sheets
+pub mod Calls
+pub mod Ends
+pub mod Claims
+pub mod Sealed
+pub mod Promise
