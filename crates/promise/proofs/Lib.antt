@@ -7,3 +7,5 @@ pub mod Answers
 pub mod Ends
 pub mod Boxes
 pub mod FalseClaims
+pub mod Honesty
+pub mod Promise
