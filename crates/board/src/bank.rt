@@ -23,8 +23,8 @@ fn cell_at<T: Copy>(cells: &[T], i: usize) -> Option<T>
     }
 }
 
-// Puts x into the first n cells.
-fn fill_cells<T: Copy>(cells: &mut [T], n: usize, x: T)
+// Puts x into the first n cells of a slice.
+pub fn fill_cells<T: Copy>(cells: &mut [T], n: usize, x: T)
     requires { ⌜ n ≤ length (now cells) ⌝ }
     ensures { λ _. ⌜ now (cells .exit) ≡ filled n x (now (cells .entry)) ⌝ }
 {

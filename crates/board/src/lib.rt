@@ -10,6 +10,7 @@ mod readings;
 mod refusal;
 
 pub use bank::Bank;
+pub use bank::fill_cells;
 pub use game::Book;
 pub use game::Grid;
 pub use game::Move;

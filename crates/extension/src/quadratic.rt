@@ -61,7 +61,9 @@ pub impl<B: BaseField> Field for Extension<B> as ExtensionField {
     }
 
     fn is_same(self, other: Self) -> bool {
-        self.a.low() == other.a.low() && self.b.low() == other.b.low()
+        let low = self.a.low() == other.a.low();
+        let high = self.b.low() == other.b.low();
+        low && high
     }
 
     // The conjugate a − b t over the norm a a − w b b.

@@ -1,1 +1,2 @@
 pub mod Stands
+mod Steps

@@ -1,3 +1,4 @@
 pub mod Calls
 pub mod Notes
 pub mod Granted
+pub mod Rows

@@ -1,9 +1,11 @@
 // The host: the prover of the product. It counts moves, and answers questions about the counts with sheets.
 ghost use Rattle.host.specs.Notes.{HostKeepsLedger};
 
+mod columns;
 mod end;
 mod listening;
 mod sealed;
+mod values;
 
 pub use end::Listening;
 pub use end::Sealed;

@@ -62,7 +62,7 @@ pub impl Field for Residue<2147483647> as Mersenne31Field {
     }
 
     fn low(self) -> u32 {
-        self.value
+        self.value()
     }
 
     fn high(self) -> u32 {

@@ -62,7 +62,7 @@ pub impl Field for Residue<65537> as Mod65537Field {
     }
 
     fn low(self) -> u32 {
-        self.value
+        self.value()
     }
 
     fn high(self) -> u32 {

@@ -1,0 +1,5 @@
+pub mod Grids
+pub mod Bounds
+pub mod CellsLaw
+pub mod GoodsLaw
+pub mod SquaresLaw

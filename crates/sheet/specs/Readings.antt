@@ -1,4 +1,5 @@
 -- The grammar of a sheet as one list of what is due, and what reading a sheet gives. Assumes nothing.
+use mathlib.Core.Path.{_≡_}
 use mathlib.Core.Bool.{cond}
 use mathlib.Core.List.{List, [], _∷_, _++_, map}
 use Prim.Native.Nat.{ℕ, zero, suc}
@@ -103,6 +104,11 @@ module _ {K : Type 0} (F : FieldModel K) where
   abbrev pub trayOf : ℕ → Result (ℤ × List K) Refusal → List K → List K
   trayOf n (Ok r) tray = r .1 ++ drop n tray
   trayOf n (Err r) tray = filled n (F .zero) tray
+
+  -- the values of a reading stand in the first n elements, or anything after a fault, and the others are as they were
+  abbrev pub Filled : ℕ → Result (ℤ × List K) Refusal → List K → List K → Type 0
+  Filled n (Ok r) before after = after ≡ r .1 ++ drop n before
+  Filled n (Err r) before after = drop n after ≡ drop n before
 
   -- what reading a sheet into a tray answers: 21 unless the tray has degree + 1 elements, else the claim or the first fault
   abbrev pub readAnswer : Terms → List ℕ → List K → Result ℤ Refusal

@@ -1,6 +1,6 @@
 // What the grammar has next, where only one thing will do.
-use crate::keyword::Keyword;
 use board::Fault;
+use crate::keyword::Keyword;
 
 #[derive(Clone, Copy)]
 pub(crate) enum Due {

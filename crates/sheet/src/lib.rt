@@ -3,7 +3,9 @@ mod due;
 mod expect;
 mod keyword;
 mod lines;
+mod sheet;
 mod terms;
 
 pub use keyword::Keyword;
+pub use sheet::read_sheet;
 pub use terms::Terms;

@@ -1,3 +1,4 @@
 pub mod Calls
 pub mod Granted
 pub mod Notes
+pub mod Judging

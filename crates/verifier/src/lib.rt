@@ -5,6 +5,7 @@ use field::Field;
 mod end;
 mod listening;
 mod sealed;
+mod weighing;
 
 pub use end::Listening;
 pub use end::Sealed;
