@@ -28,6 +28,14 @@ pub spaces-of : (n : ℕ) (xs : List ℕ) → leadingSpaces xs ≡ 0 → leading
 spaces-of zero xs e = e
 spaces-of (suc n) xs e = ap suc (spaces-of n xs e)
 
+-- behind the spaces there is no space
+pub skip-close : (bs : List ℕ) → leadingSpaces (drop (leadingSpaces bs) bs) ≡ 0
+skip-close [] = refl
+skip-close (b ∷ bs) =
+    cond-both (eqb b 32) (suc (leadingSpaces bs)) 0 (λ n. leadingSpaces (drop n (b ∷ bs)) ≡ 0)
+    (λ _. skip-close bs)
+    (λ e. cond-false (eqb b 32) (suc (leadingSpaces bs)) 0 e)
+
 -- no byte of w ends a run
 abbrev pub solid : List ℕ → Bool
 solid w = eachByte (λ b. not (isStop b)) w

@@ -1,0 +1,5 @@
+pub mod Seen
+pub mod Traces
+pub mod Parts
+pub mod Sheets
+pub mod Faults
