@@ -17,8 +17,7 @@ use Rattle.polynomial.specs.Lists.{Each}
 use Rattle.polynomial.specs.Columns.{columns}
 use Rattle.question.specs.Question.{Within}
 use Rattle.verifier.specs.Notes.{VerifierState}
-use Rattle.promise.specs.Sheets.{SheetModel}
-use Rattle.promise.specs.Calls.{Judgement, judged}
+use Rattle.verifier.specs.Judging.{Judgement, judged}
 use Rattle.promise.specs.Runs.{moves}
 use Rattle.promise.specs.Ends.{VerifierOpening, Judging, verifierEnd}
 use Rattle.promise.specs.Claims.{Entry}
@@ -35,30 +34,30 @@ countsOf F h v ms = ledger h v (F .limit) ms .counts
 pub within : {K : Type 0} (F : FieldModel K) (h v : ℕ) (ms : List Move) → Within F h v (countsOf F h v ms)
 within F h v ms = let k = kept h v (F .limit) ms in record { size = k .size; light = omega arith }
 
-module _ {K : Type 0} {F : FieldModel K} (L : LawfulField F) (S : SheetModel F) where
+module _ {K : Type 0} {F : FieldModel K} (L : LawfulField F) where
   -- a box whose bank begins with the columns of the counts at the point r
   pub record Holding (h v : ℕ) (ms : List Move) (r : K) (x : VerifierState K) : Type 0 where
     pub bank : List K
     pub allowed : gridAllowed h v ≡ true
     pub long : v ≤ length bank
     pub right : take v bank ≡ columns F h v (countsOf F h v ms) r
-    pub judges : (j : Judging K) → verifierEnd S .reply x j ≡ judged S h v r bank (j .question) (j .sheet) (j .tray)
+    pub judges : (j : Judging K) → verifierEnd F .reply x j ≡ judged F h v r bank (j .question) (j .sheet) (j .tray)
 
   holding : (o : VerifierOpening K) (ms : List Move) (x : VerifierState K) → VerifierStands F o (ledger (o .rows) (o .columns) (F .limit) ms) x → Holding (o .rows) (o .columns) ms (o .point) x
-  holding o ms x s = record { bank = s .bank; allowed = s .allowed; long = s .long; right = s .right; judges = λ j. ap (λ z. verifierEnd S .reply z j) (s .is) }
+  holding o ms x s = record { bank = s .bank; allowed = s .allowed; long = s .long; right = s .right; judges = λ j. ap (λ z. verifierEnd F .reply z j) (s .is) }
 
   -- a judging by such a box
   pub record JudgedBy (h v : ℕ) (ms : List Move) (r : K) (g : Judging K × Judgement K) : Type 0 where
     pub box : VerifierState K
     pub holds : Holding h v ms r box
-    pub is : g .1 ≡ verifierEnd S .reply box (g .0)
+    pub is : g .1 ≡ verifierEnd F .reply box (g .0)
 
   -- the box at the end of a run, and all that was judged in it
   pub record Settled (h v : ℕ) (ms : List Move) (r : K) (x : VerifierState K) (gs : List (Judging K × Judgement K)) : Type 0 where
     pub holds : Holding h v ms r x
     pub all : Each (JudgedBy h v ms r) gs
 
-  pub settled : (h v : ℕ) (ms : List Move) (r : K) (run : SealedVerifier S h v ms r) → Settled h v ms r (run .verifier) (judgings S h v ms run)
+  pub settled : (h v : ℕ) (ms : List Move) (r : K) (run : SealedVerifier F h v ms r) → Settled h v ms r (run .verifier) (judgings F h v ms run)
   settled h v ms r run = subst₃ (λ a b c. Settled a b ms c x gs) (run .rows) (run .columns) (run .point) (subst (λ ns. Settled (o .rows) (o .columns) ns (o .point) x gs) (run .told) there)
     where
       o : VerifierOpening K
@@ -68,10 +67,10 @@ module _ {K : Type 0} {F : FieldModel K} (L : LawfulField F) (S : SheetModel F) 
       x = run .verifier
 
       gs : List (Judging K × Judgement K)
-      gs = judgings S h v ms run
+      gs = judgings F h v ms run
 
-      t : Ran (verifier-keeps S L) (run .requests) o x
-      t = ran-at (verifier-keeps S L) (run .requests) (run .shaped) o (run .grants) x (inr (run .ends))
+      t : Ran (verifier-keeps F L) (run .requests) o x
+      t = ran-at (verifier-keeps F L) (run .requests) (run .shaped) o (run .grants) x (inr (run .ends))
 
       there : Settled (o .rows) (o .columns) (moves (run .requests)) (o .point) x gs
       there = record {
@@ -81,7 +80,7 @@ module _ {K : Type 0} {F : FieldModel K} (L : LawfulField F) (S : SheetModel F) 
 
   -- what a sheet that was accepted passed, in terms of the counts
   pub accepted-at : (h v : ℕ) (ms : List Move) (r : K) (g : Judging K × Judgement K) (c : ℤ) → JudgedBy h v ms r g → g .1 .answer ≡ Ok c
-      → Passed L S h v r (columns F h v (countsOf F h v ms) r) (g .0 .question) (g .0 .sheet) c
+      → Passed L h v r (columns F h v (countsOf F h v ms) r) (g .0 .question) (g .0 .sheet) c
   accepted-at h v ms r g c z e =
-      subst (λ cs. Passed L S h v r cs (g .0 .question) (g .0 .sheet) c) (z .holds .right)
-      (accepted-passed L S h v r (z .holds .bank) (g .0 .question) (g .0 .sheet) (g .0 .tray) c (sym (ap (λ w. w .answer) (z .is ∙ z .holds .judges (g .0))) ∙ e))
+      subst (λ cs. Passed L h v r cs (g .0 .question) (g .0 .sheet) c) (z .holds .right)
+      (accepted-passed L h v r (z .holds .bank) (g .0 .question) (g .0 .sheet) (g .0 .tray) c (sym (ap (λ w. w .answer) (z .is ∙ z .holds .judges (g .0))) ∙ e))

@@ -9,7 +9,7 @@ use Rattle.host.specs.Notes.{HostState}
 use Rattle.host.proofs.Stands as host
 use Rattle.verifier.specs.Notes.{VerifierState}
 use Rattle.verifier.proofs.Stands as verifier
-use Rattle.promise.specs.Sheets.{SheetModel}
+use Rattle.promise.specs.Texts.{Text}
 use Rattle.promise.specs.Ends.{VerifierOpening, verifierEnd, HostOpening, hostEnd}
 use Rattle.promise.proofs.Runs.{Keeps}
 
@@ -22,8 +22,7 @@ module _ {K : Type 0} (F : FieldModel K) where
   abbrev pub HostStands : HostOpening → Ledger → HostState → Type 0
   HostStands o l x = host.Stands (F .limit) (o .rows) (o .columns) (drop (o .rows * o .columns) (o .bank)) l x
 
-module _ {K : Type 0} {F : FieldModel K} (S : SheetModel F) where
-  pub verifier-keeps : LawfulField F → Keeps (verifierEnd S) (F .limit) (VerifierStands F)
+  pub verifier-keeps : LawfulField F → Keeps (verifierEnd F) (F .limit) VerifierStands
   verifier-keeps L = record {
     begins = λ o u e. verifier.opened-stands L (o .rows) (o .columns) (o .point) (o .bank) u e;
     answers = λ o l x m s. verifier.note-answer L (o .rows) (o .columns) (o .point) (drop (o .columns) (o .bank)) l x m s;
@@ -32,8 +31,8 @@ module _ {K : Type 0} {F : FieldModel K} (S : SheetModel F) where
     standing = λ o l x s. ap (λ z. z .standing) (s .is);
   }
 
-  pub host-keeps : Keeps (hostEnd S) (F .limit) (HostStands F)
-  host-keeps = record {
+  pub host-keeps : (text : Text K) → Keeps (hostEnd F text) (F .limit) HostStands
+  host-keeps text = record {
     begins = λ o u e. host.opened-stands (F .limit) (o .rows) (o .columns) (o .bank) u e;
     answers = λ o l x m s. host.note-answer (F .limit) (o .rows) (o .columns) (drop (o .rows * o .columns) (o .bank)) l x m s;
     follows = λ o l x m s. host.note-stands (F .limit) (o .rows) (o .columns) (drop (o .rows * o .columns) (o .bank)) l x m s;

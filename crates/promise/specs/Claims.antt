@@ -14,8 +14,7 @@ use Rattle.board.specs.declared.refusal.Refusal.{Refusal}
 use Rattle.board.specs.Ledger.{ledger}
 use Rattle.question.specs.declared.outcome.Fit.the-variants as fit
 use Rattle.question.specs.Question.{QuestionModel}
-use Rattle.protocol.specs.Asking.{isFit}
-use Rattle.promise.specs.Sheets.{SheetModel}
+use Rattle.protocol.specs.Asking.{isFit, readSheet}
 
 -- a sheet, with the question that it is judged under
 pub record Entry (K : Type 0) : Type 0 where
@@ -31,18 +30,18 @@ claimDiffers (Err e) t = false
 abbrev pub trueCount : {K : Type 0} → FieldModel K → ℕ → ℕ → List Move → QuestionModel K → ℤ
 trueCount F h v ms q = q .tally h v (ledger h v (F .limit) ms .counts)
 
-module _ {K : Type 0} {F : FieldModel K} (S : SheetModel F) (h v : ℕ) (ms : List Move) where
+module _ {K : Type 0} (F : FieldModel K) (h v : ℕ) (ms : List Move) where
   -- the question fits the grid, the sheet reads without refusal, and its claim is not the true count
   pub record FalseClaim (e : Entry K) : Type 0 where
     pub fit : e .question .fits h v ≡ fit.Fits
     pub claim : ℤ
     pub values : List K
-    pub reads : S .read (e .question) h v (e .sheet) ≡ Ok (claim, values)
+    pub reads : readSheet F (e .question) h v (e .sheet) ≡ Ok (claim, values)
     pub wrong : claim ≢ trueCount F h v ms (e .question)
 
   -- the same, as a test
   abbrev pub claimsFalsely : Entry K → Bool
-  claimsFalsely e = isFit (e .question .fits h v) && claimDiffers (S .read (e .question) h v (e .sheet)) (trueCount F h v ms (e .question))
+  claimsFalsely e = isFit (e .question .fits h v) && claimDiffers (readSheet F (e .question) h v (e .sheet)) (trueCount F h v ms (e .question))
 
   -- the degrees of the listed sheets that claim falsely, added
   abbrev pub falseDegrees : List (Entry K) → ℕ

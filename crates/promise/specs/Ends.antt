@@ -8,8 +8,9 @@ use Rattle.host.specs.Calls.{hostOpenAnswer, hostNoteAnswer}
 use Rattle.host.specs.Notes.{HostState, hostOpened, hostNoted}
 use Rattle.verifier.specs.Calls.{verifierOpenAnswer, verifierNoteAnswer}
 use Rattle.verifier.specs.Notes.{VerifierState, verifierOpened, verifierNoted}
-use Rattle.promise.specs.Sheets.{SheetModel}
-use Rattle.promise.specs.Calls.{Judgement, Answered, judged, answered}
+use Rattle.verifier.specs.Judging.{Judgement, judged}
+use Rattle.promise.specs.Texts.{Text}
+use Rattle.promise.specs.Calls.{Answered, answered}
 use Rattle.promise.specs.Runs.{End}
 
 -- what opening a box takes
@@ -37,7 +38,7 @@ pub record Answering (K : Type 0) : Type 0 where
   pub tray : List K
   pub paper : List ℕ
 
-module _ {K : Type 0} {F : FieldModel K} (S : SheetModel F) where
+module _ {K : Type 0} (F : FieldModel K) where
   -- the box: judging changes neither its standing nor its bank
   abbrev pub verifierEnd : End (VerifierOpening K) (VerifierState K) (Judging K) (Judgement K)
   verifierEnd = record {
@@ -47,21 +48,21 @@ module _ {K : Type 0} {F : FieldModel K} (S : SheetModel F) where
     begin = λ o. verifierOpened F (o .rows) (o .columns) (o .point) (o .bank);
     note = λ x m. verifierNoteAnswer F (x .standing) (x .bank) m;
     noted = λ x m. verifierNoted F x m;
-    reply = λ x j. judged S (x .standing .rows) (x .standing .columns) (x .point) (x .bank) (j .question) (j .sheet) (j .tray);
+    reply = λ x j. judged F (x .standing .rows) (x .standing .columns) (x .point) (x .bank) (j .question) (j .sheet) (j .tray);
     replied = λ x j. x;
     standing = λ x. x .standing;
   }
 
   -- the host: answering changes neither its standing nor its bank
-  abbrev pub hostEnd : End HostOpening HostState (Answering K) (Answered K)
-  hostEnd = record {
+  abbrev pub hostEnd : Text K → End HostOpening HostState (Answering K) (Answered K)
+  hostEnd text = record {
     rows = λ o. o .rows;
     columns = λ o. o .columns;
     grant = λ o. hostOpenAnswer (o .rows) (o .columns) (o .bank);
     begin = λ o. hostOpened (o .rows) (o .columns) (o .bank);
     note = λ x m. hostNoteAnswer (F .limit) (x .standing) (x .bank) m;
     noted = λ x m. hostNoted (F .limit) x m;
-    reply = λ x a. answered S (x .standing .rows) (x .standing .columns) (x .bank) (a .question) (a .tray) (a .paper);
+    reply = λ x a. answered F text (x .standing .rows) (x .standing .columns) (x .bank) (a .question) (a .tray) (a .paper);
     replied = λ x a. x;
     standing = λ x. x .standing;
   }

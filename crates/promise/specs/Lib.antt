@@ -2,9 +2,11 @@ pub mod Runs
 pub mod Ledgers
 pub mod Shapes
 pub mod Counts
-pub mod Sheets
+pub mod Texts
 pub mod Calls
 pub mod Ends
 pub mod Claims
 pub mod Sealed
 pub mod Promise
+pub mod Adequacy
+pub mod WorkedBoard

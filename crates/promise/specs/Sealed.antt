@@ -17,52 +17,38 @@ use Rattle.question.specs.Question.{QuestionModel}
 use Rattle.protocol.specs.Asking.{honest}
 use Rattle.host.specs.Notes.{HostState}
 use Rattle.verifier.specs.Notes.{VerifierState}
-use Rattle.promise.specs.Sheets.{SheetModel}
-use Rattle.promise.specs.Calls.{Judgement, Answered}
+use Rattle.verifier.specs.Judging.{Judgement}
+use Rattle.promise.specs.Texts.{Text}
+use Rattle.promise.specs.Calls.{Answered}
 use Rattle.promise.specs.Runs.{Request, closed, sealed, moves, Shaped, after, granted, replies}
 use Rattle.promise.specs.Ends.{VerifierOpening, Judging, verifierEnd, HostOpening, Answering, hostEnd}
 use Rattle.promise.specs.Claims.{Entry, trueCount, claimsFalsely}
 
-module _ {K : Type 0} {F : FieldModel K} (S : SheetModel F) (h v : ℕ) (ms : List Move) where
+-- the sheet of a judging, with its question
+abbrev pub entryOf : {K : Type 0} → Judging K → Entry K
+entryOf j = record { question = j .question; sheet = j .sheet }
+
+module _ {K : Type 0} (F : FieldModel K) (h v : ℕ) (ms : List Move) where
   -- a run of a box on h rows and v columns, granted at the point r, told the moves ms, and sealed at its end
   pub record SealedVerifier (r : K) : Type 0 where
     pub requests : List (Request (VerifierOpening K) (Judging K))
-    pub shaped : Shaped (verifierEnd S) closed requests
+    pub shaped : Shaped (verifierEnd F) closed requests
     pub opened : VerifierOpening K
-    pub grants : granted (verifierEnd S) requests ≡ some opened
+    pub grants : granted (verifierEnd F) requests ≡ some opened
     pub rows : opened .rows ≡ h
     pub columns : opened .columns ≡ v
     pub point : opened .point ≡ r
     pub told : moves requests ≡ ms
     pub verifier : VerifierState K
-    pub ends : after (verifierEnd S) closed requests ≡ sealed verifier
+    pub ends : after (verifierEnd F) closed requests ≡ sealed verifier
 
-  -- a run of a host on h rows and v columns, told the moves ms, and sealed at its end
-  pub record SealedHost : Type 0 where
-    pub requests : List (Request HostOpening (Answering K))
-    pub shaped : Shaped (hostEnd S) closed requests
-    pub opened : HostOpening
-    pub grants : granted (hostEnd S) requests ≡ some opened
-    pub rows : opened .rows ≡ h
-    pub columns : opened .columns ≡ v
-    pub told : moves requests ≡ ms
-    pub host : HostState
-    pub ends : after (hostEnd S) closed requests ≡ sealed host
-
-  -- what the boxes and hosts of such runs give
+  -- what the box of such a run gives for a sheet
   abbrev pub verifierGives : {r : K} → SealedVerifier r → QuestionModel K → List ℕ → List K → Judgement K
-  verifierGives run q sheet tray = verifierEnd S .reply (run .verifier) (record { question = q; sheet = sheet; tray = tray })
-
-  abbrev pub hostGives : SealedHost → QuestionModel K → List K → List ℕ → Answered K
-  hostGives run q tray paper = hostEnd S .reply (run .host) (record { question = q; tray = tray; paper = paper })
+  verifierGives run q sheet tray = verifierEnd F .reply (run .verifier) (record { question = q; sheet = sheet; tray = tray })
 
   -- all that the box of a run judged, with what it gave
   abbrev pub judgings : {r : K} → SealedVerifier r → List (Judging K × Judgement K)
-  judgings run = replies (verifierEnd S) closed (run .requests)
-
-  -- the sheet of a judging, with its question
-  abbrev pub entryOf : Judging K → Entry K
-  entryOf j = record { question = j .question; sheet = j .sheet }
+  judgings run = replies (verifierEnd F) closed (run .requests)
 
   -- a run that judges listed sheets alone: any of them, with any trays, in any order, as often as it likes
   pub record ListedRun (es : List (Entry K)) (r : K) : Type 0 where
@@ -72,7 +58,23 @@ module _ {K : Type 0} {F : FieldModel K} (S : SheetModel F) (h v : ℕ) (ms : Li
   -- a point at which some such run accepts a listed sheet with a false claim
   pub record Fooled (es : List (Entry K)) (r : K) : Type 0 where
     pub judges : ListedRun es r
-    pub accepts : Any (λ g. (c : ℤ) × (g .1 .answer ≡ Ok c) × (claimsFalsely S h v ms (entryOf (g .0)) ≡ true)) (judgings (judges .run))
+    pub accepts : Any (λ g. (c : ℤ) × (g .1 .answer ≡ Ok c) × (claimsFalsely F h v ms (entryOf (g .0)) ≡ true)) (judgings (judges .run))
+
+  -- a run of a host on h rows and v columns, told the moves ms, and sealed at its end
+  pub record SealedHost (text : Text K) : Type 0 where
+    pub requests : List (Request HostOpening (Answering K))
+    pub shaped : Shaped (hostEnd F text) closed requests
+    pub opened : HostOpening
+    pub grants : granted (hostEnd F text) requests ≡ some opened
+    pub rows : opened .rows ≡ h
+    pub columns : opened .columns ≡ v
+    pub told : moves requests ≡ ms
+    pub host : HostState
+    pub ends : after (hostEnd F text) closed requests ≡ sealed host
+
+  -- what the host of such a run gives for a question
+  abbrev pub hostGives : {text : Text K} → SealedHost text → QuestionModel K → List K → List ℕ → Answered K
+  hostGives {text} run q tray paper = hostEnd F text .reply (run .host) (record { question = q; tray = tray; paper = paper })
 
   -- what an honest host gives for a question: the true count, the values of the question's polynomial at 0 to D with the columns at D behind them,
   -- and on the paper a sheet that every box told the same moves accepts at its point with the true count
