@@ -1,13 +1,14 @@
 -- What the ledger keeps: its counts are as many as the cells, and their absolute values come to the weight at most. Assumes nothing.
-use mathlib.Core.Path.{_≡_, refl, _∙_, subst}
+use mathlib.Core.Path.{_≡_, refl, _∙_, ap, subst}
 use mathlib.Core.Bool.{Bool, true, false}
 use mathlib.Core.List.{List, [], _∷_, _++_}
 use Prim.Native.Nat.{ℕ, zero, suc, _+_, _*_, _≤_, _<_}
 use native.Mathlib.Omega.{arith}
 use lib.Dec.{leb, ltb}
 use lib.IntN.{ℤ, pos, _+ℤ_, natAbs}
-use lib.ListN.{length, getD, set, replicate, length-set, length-replicate}
+use lib.ListN.{length, getD, take, set, replicate, length-set, length-replicate}
 use borrow.Author.Tests.{ltb-true, leb-true}
+use Rattle.std.proofs.shelf.Lists.{take-more}
 use Rattle.std.proofs.shelf.Signed.{ints}
 use Rattle.std.specs.declared.result.Result.{Result}
 use Rattle.std.specs.declared.result.Result.the-variants.{Ok, Err}
@@ -90,3 +91,11 @@ module _ (h v W : ℕ) where
   pub ledger-append : (l : Ledger) (ms ns : List Move) → ledgerFrom h v W l (ms ++ ns) ≡ ledgerFrom h v W (ledgerFrom h v W l ms) ns
   ledger-append l [] ns = refl
   ledger-append l (m ∷ ms) ns = ledger-append (ledgerNext h v W l m) ms ns
+
+pub abs-append : (fs gs : List ℤ) → absSum (fs ++ gs) ≡ absSum fs + absSum gs
+abs-append [] gs = omega arith
+abs-append (f ∷ fs) gs = omega (arith, abs-append fs gs)
+
+-- one count more
+pub abs-more : (fs : List ℤ) (i : ℕ) → i < length fs → absSum (take (i + 1) fs) ≡ absSum (take i fs) + natAbs (getD fs i (pos 0))
+abs-more fs i h = ap absSum (take-more fs i (pos 0) h) ∙ omega (arith, abs-append (take i fs) (getD fs i (pos 0) ∷ []))

@@ -1,16 +1,17 @@
 -- The quadratic extension of a base field is a lawful field. Assumes nothing but the laws of the base.
 use mathlib.Core.Path.{_≡_, refl, sym, ap, ap₂, _∙_}
-use mathlib.Core.Logic.{inl, inr, _≢_}
+use mathlib.Core.Logic.{inl, inr}
 use mathlib.Core.List.{[], _∷_}
 use Prim.Native.Nat.{ℕ, _<_, _≤_}
 use native.Mathlib.Nat.{zero-mod}
 use native.Mathlib.Omega.{arith}
 use lib.IntN.{pos}
-use Rattle.field.specs.Field.{FieldModel, Ring, Images, Inverses, Parts, LawfulField, LawfulBase, PartsOf}
+use Rattle.std.specs.declared.option.Option.the-variants.{Some, None}
+use Rattle.field.specs.Field.{FieldModel, Ring, Images, Inverses, Parts, LawfulField, LawfulBase, PartsOf, inverse}
 use Rattle.field.proofs.Consequences.{inv-unique, image-nonzero}
-use Rattle.field.proofs.Sameness.{decided, square-zero}
+use Rattle.field.proofs.Sameness.{decided, square-zero, inverse-some, inverse-none, some-inverse, none-inverse}
 use Rattle.field.proofs.Solver.{sides, solve, solve-by₂}
-use Rattle.extension.specs.Pairs.{pair, norm, quadratic}
+use Rattle.extension.specs.Pairs.{pair, norm, conjugate-times, quadratic}
 use Rattle.extension.specs.declared.pair.Extension.{Extension}
 
 -- pairs with equal parts are equal
@@ -149,3 +150,12 @@ module _ {B : Type 0} (F : FieldModel B) (w : B) (L : LawfulField F) (base : Law
       let x = image (pos n) in
       let unit = L .inverses .mul-inv x (image-nonzero L n lo (omega (arith, L .bounds .characteristic-least))) in
       inv-unique pair-lawful (pair-path (plain F w (L .ring) x (inv x) ∙ unit) (none F w (L .ring) x (inv x)))
+
+  -- the inverse is the conjugate over the norm, and there is none where the norm has none
+  pub inverse-by-norm : (x r : Extension B) (n i : B) → n ≡ norm F w x → Some i ≡ inverse F n → r ≡ conjugate-times F x i → Some r ≡ inverse (quadratic F w) x
+  inverse-by-norm x r n i is some made =
+      let s = inverse-some (L .parts) n i some in
+      ap Some (made ∙ ap (conjugate-times F x) (s .1 ∙ ap inv is)) ∙ sym (some-inverse pair-parts x (λ e. s .0 (is ∙ zero-norm F w (L .ring) x e)))
+
+  pub no-inverse : (x : Extension B) (n : B) → n ≡ norm F w x → None ≡ inverse F n → None ≡ inverse (quadratic F w) x
+  no-inverse x n is none = sym (none-inverse pair-parts x (norm-zero x (sym is ∙ inverse-none (L .parts) n none)))

@@ -1,4 +1,5 @@
 // The quadratic extension of any base field.
+mod conjugate;
 pub mod pair;
 pub mod quadratic;
 

@@ -1,5 +1,4 @@
 // The quadratic extension of a base field: pairs a + b t with t × t = w. A product takes five products of the base, an inverse five and one inverse.
-ghost use mathlib.Core.Path.{_≡_};
 ghost use Rattle.extension.specs.Pairs.{quadratic};
 use crate::pair::Extension;
 use field::BaseField;
@@ -66,15 +65,9 @@ pub impl<B: BaseField> Field for Extension<B> as ExtensionField {
         low && high
     }
 
-    // The conjugate a − b t over the norm a a − w b b.
     fn inverse(self) -> Option<Self> {
-        let square = B::non_square().product(self.b.product(self.b));
-        let norm = self.a.product(self.a).sum(square.opposite());
-        match norm.inverse() {
-            Some(i) => Some(Extension {
-                a: self.a.product(i),
-                b: self.b.opposite().product(i),
-            }),
+        match self.norm().inverse() {
+            Some(i) => Some(self.conjugate_times(i)),
             None => None,
         }
     }

@@ -6,7 +6,15 @@ use std::test::*;
 pub(crate) type Pair = (u32, u32);
 
 // Two elements, their sum and their product, and the opposite and the inverse of the first.
-pub(crate) type Case = (Pair, Pair, Pair, Pair, Pair, Pair);
+#[derive(Clone, Copy)]
+pub(crate) struct Case {
+    pub(crate) left: Pair,
+    pub(crate) right: Pair,
+    pub(crate) sum: Pair,
+    pub(crate) product: Pair,
+    pub(crate) opposite: Pair,
+    pub(crate) inverse: Pair,
+}
 
 // The element with these parts; a failed test where the field has none.
 fn element<F: Field>(parts: Pair) -> Result<F, Fail> {
@@ -24,14 +32,19 @@ pub(crate) fn parts<F: Field>(x: F) -> Pair {
 }
 
 fn check_case<F: Field>(case: Case) -> Result<(), Fail> {
-    let (left, right, sum, product, opposite, inverse) = case;
-    let x: F = element(left)?;
-    let y: F = element(right)?;
+    let x: F = element(case.left)?;
+    let y: F = element(case.right)?;
     let i = x.inverse().ok_or("no inverse")?;
-    check(x.is_same(y) == (left == right))?;
-    check_eq((parts(x), parts(y)), (left, right))?;
-    check_eq((parts(x.sum(y)), parts(x.product(y))), (sum, product))?;
-    check_eq((parts(x.opposite()), parts(i)), (opposite, inverse))
+    check(x.is_same(y) == (case.left == case.right))?;
+    check_eq((parts(x), parts(y)), (case.left, case.right))?;
+    check_eq(
+        (parts(x.sum(y)), parts(x.product(y))),
+        (case.sum, case.product),
+    )?;
+    check_eq(
+        (parts(x.opposite()), parts(i)),
+        (case.opposite, case.inverse),
+    )
 }
 
 pub(crate) fn check_cases<F: Field>(cases: &[Case]) -> Result<(), Fail> {

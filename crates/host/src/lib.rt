@@ -2,6 +2,7 @@
 ghost use Rattle.host.specs.Notes.{HostKeepsLedger};
 
 mod columns;
+mod counts;
 mod end;
 mod listening;
 mod sealed;

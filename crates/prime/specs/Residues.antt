@@ -1,4 +1,4 @@
--- Residues modulo P: the operations of a prime field. Assumes nothing.
+-- Residues modulo P: the operations of a prime field.
 use Prim.Native.Nat.{ℕ, zero, suc, _+_, _*_, _-_, _/_, _%_, _<_}
 use native.Mathlib.Nat.{mod-lt}
 use native.Mathlib.Omega.{arith}
@@ -13,21 +13,25 @@ residue-of P h n = record { value = n % P; small = mod-lt n h }
 pub positive : {P : ℕ} → Residue P → 0 < P
 positive x = omega (arith, x .small)
 
+-- the sum, reduced
 abbrev pub plus : {P : ℕ} → Residue P → Residue P → Residue P
 plus {P} x y = residue-of P (positive x) (x .value + y .value)
 
+-- what comes to a multiple of P with x, reduced
 abbrev pub minus : {P : ℕ} → Residue P → Residue P
 minus {P} x = residue-of P (positive x) (P - x .value)
 
+-- the product, reduced
 abbrev pub times : {P : ℕ} → Residue P → Residue P → Residue P
 times {P} x y = residue-of P (positive x) (x .value * y .value)
 
--- the extended Euclidean algorithm modulo p: each r is its t times the number that is to be inverted
+-- the extended Euclidean algorithm modulo p: each remainder r is its coefficient t times the number that is to be inverted
 abbrev pub euclid : ℕ → ℕ → ℕ → ℕ → ℕ → ℕ → ℕ
 euclid p zero r₀ r₁ t₀ t₁ = t₀
 euclid p (suc fuel) r₀ zero t₀ t₁ = t₀
 euclid p (suc fuel) r₀ (suc k) t₀ t₁ = euclid p fuel (suc k) (r₀ % suc k) t₁ ((t₀ + (p - (r₀ / suc k * t₁) % p)) % p)
 
+-- what x times it leaves 1, where P is prime and x is not 0
 abbrev pub inverted : {P : ℕ} → Residue P → Residue P
 inverted {P} x = residue-of P (positive x) (euclid P (suc (x .value)) P (x .value) 0 1)
 

@@ -13,4 +13,3 @@ pub use modulo_65537::Mod65537Field;
 pub use modulo_2147483647::Mersenne31;
 pub use modulo_2147483647::Mersenne31Base;
 pub use modulo_2147483647::Mersenne31Field;
-pub use residue::Residue;

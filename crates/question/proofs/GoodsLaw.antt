@@ -5,12 +5,11 @@ use mathlib.Core.List.{List, [], _∷_, map}
 use Prim.Native.Nat.{ℕ, zero, suc, _+_, _*_, _/_, _%_, _≤_, _<_}
 use native.Mathlib.Omega.{arith}
 use lib.Dec.{eqb}
-use lib.IntN.{ℤ, pos, natAbs}
+use lib.IntN.{ℤ, pos}
 use lib.ListN.{length, getD}
 use Rattle.field.specs.Field.{FieldModel, LawfulField}
 use Rattle.field.proofs.Consequences.{limit-small}
 use Rattle.board.specs.Ledger.{absSum}
-use Rattle.board.proofs.Ledgers.{abs-add}
 use Rattle.polynomial.specs.Lists.{Each, listed}
 use Rattle.polynomial.specs.Sums.{sumFrom}
 use Rattle.polynomial.specs.Polynomials.{eval, sum}
@@ -19,6 +18,7 @@ use Rattle.polynomial.proofs.Evals.{eval-sum, length-sum}
 use Rattle.polynomial.proofs.Sums.{sum-cong, all-cells}
 use Rattle.question.specs.Question.{LawfulQuestion}
 use Rattle.question.specs.GoodsSums.{goodsTally, goodsRule, goodsQuestion}
+use Rattle.question.proofs.Tallies.{cond-abs, goods-abs}
 use Rattle.question.proofs.Grids.{allowed-grid}
 use Rattle.question.proofs.Bounds.{abs-least, abs-most, narrow-limit, limit-range, neg-limit-range}
 
@@ -29,10 +29,6 @@ same-goods v x y e =
     let p : x * v ≡ 8 * (x * (v / 8)) = ap (λ n. x * n) w ∙ omega arith in
     omega arith
 
-pub cond-abs : (b : Bool) (f : ℤ) → natAbs (cond b f (pos 0)) ≤ natAbs f
-cond-abs true f = omega arith
-cond-abs false f = omega arith
-
 module _ {K : Type 0} {F : FieldModel K} (L : LawfulField F) where
   image-cond : (b : Bool) (f : ℤ) → F .image (cond b f (pos 0)) ≡ cond b (F .image f) (F .zero)
   image-cond true f = refl
@@ -40,10 +36,6 @@ module _ {K : Type 0} {F : FieldModel K} (L : LawfulField F) where
 
   -- ---- goods
   module _ (g : ℕ) where
-    pub goods-abs : (j : ℕ) (fs : List ℤ) → natAbs (goodsTally g j fs) ≤ absSum fs
-    goods-abs j [] = omega arith
-    goods-abs j (f ∷ fs) = omega (arith, abs-add (cond (eqb (j % 8) g) f (pos 0)) (goodsTally g (suc j) fs), goods-abs (suc j) fs, cond-abs (eqb (j % 8) g) f)
-
     goods-listed : (j n : ℕ) (f : ℕ → K) → goodsRule F g j (listed j n f) ≡ sumFrom F j n (λ y. cond (eqb (y % 8) g) (f y) (F .zero))
     goods-listed j zero f = refl
     goods-listed j (suc n) f = ap (F .add (cond (eqb (j % 8) g) (f j) (F .zero))) (goods-listed (suc j) n f)
@@ -56,7 +48,7 @@ module _ {K : Type 0} {F : FieldModel K} (L : LawfulField F) where
         ap₂ (F .add)
         (ap (λ n. cond (eqb (j % 8) g) (F .image n) (F .zero)) (ap G z ∙ e 0 (omega arith)) ∙ sym (image-cond (eqb (j % 8) g) f))
         (goods-image (suc j) fs G (λ k c. let s : suc j + k ≡ j + suc k = omega arith in ap G s ∙ e (suc k) (omega arith)) (omega arith))
-        ∙ sym (L .images .of-add (cond (eqb (j % 8) g) f (pos 0)) (goodsTally g (suc j) fs) (omega (arith, cond-abs (eqb (j % 8) g) f)) (omega (arith, goods-abs (suc j) fs)) (omega (arith, goods-abs j (f ∷ fs))))
+        ∙ sym (L .images .of-add (cond (eqb (j % 8) g) f (pos 0)) (goodsTally g (suc j) fs) (omega (arith, cond-abs (eqb (j % 8) g) f)) (omega (arith, goods-abs g (suc j) fs)) (omega (arith, goods-abs g j (f ∷ fs))))
 
     goods-add-up : (h v : ℕ) (fs : List ℤ) → v % 8 ≡ 0 → length fs ≡ h * v → absSum fs ≤ 2147483647 → sumFrom F 0 h (λ x. goodsRule F g 0 (row F v fs x)) ≡ F .image (goodsTally g 0 fs)
     goods-add-up h v fs e n b =
@@ -97,8 +89,8 @@ module _ {K : Type 0} {F : FieldModel K} (L : LawfulField F) where
           let gr = allowed-grid h v (fits .grid) in
           record { poly = goodsPoly 0 ps; short = omega (arith, length-goods h 0 ps e, gr .rows-least); value = eval-goods 0 ps };
       rows-add-up = λ h v fits fs w. goods-add-up h v fs (allowed-grid h v (fits .grid) .columns-eighths) (w .size) (omega (arith, w .light, limit-small L));
-      tally-least = λ h v fits fs w. abs-least (goodsTally g 0 fs) (F .limit) (omega (arith, goods-abs 0 fs, w .light));
-      tally-most = λ h v fits fs w. abs-most (goodsTally g 0 fs) (F .limit) (omega (arith, goods-abs 0 fs, w .light));
+      tally-least = λ h v fits fs w. abs-least (goodsTally g 0 fs) (F .limit) (omega (arith, goods-abs g 0 fs, w .light));
+      tally-most = λ h v fits fs w. abs-most (goodsTally g 0 fs) (F .limit) (omega (arith, goods-abs g 0 fs, w .light));
       narrow = λ h v fits. narrow-limit L;
       least-range = λ h v fits. neg-limit-range L;
       greatest-range = λ h v fits. limit-range L;

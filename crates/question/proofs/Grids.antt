@@ -2,7 +2,8 @@
 use mathlib.Core.Path.{_≡_, refl, sym, subst}
 use mathlib.Core.Bool.{Bool, true, false, _&&_, true≢false}
 use Prim.Native.Nat.{ℕ, _*_, _%_, _/_, _≤_, _<_}
-use native.Mathlib.Nat.{div-lt-iff-lt-mul}
+use native.Mathlib.Nat.{div-lt-iff-lt-mul, div-add-mod'}
+use native.Mathlib.Decide.{decLt}
 use native.Mathlib.Omega.{arith}
 use lib.Dec.{leb, eqb}
 use borrow.Author.Tests.{leb-true, eqb-true}
@@ -46,3 +47,11 @@ test-holds false e = let z : _≡_ {A = ℕ} 0 1 = cc in absurd (omega (arith, z
 -- the row of a cell of the grid
 pub row-below : (h v i : ℕ) → 0 < v → i < h * v → rowOf v i < h
 row-below h v i p b = div-lt-iff-lt-mul {k = v} {x = i} {y = h} p .1 b
+
+-- a later cell lies in a later row or in the same
+pub row-order : (v a b : ℕ) → 0 < v → a ≤ b → rowOf v a ≤ rowOf v b
+row-order v a b p h = go (decLt (b / v) (a / v))
+  where
+    go : Dec (b / v < a / v) → a / v ≤ b / v
+    go (yes c) = absurd (omega (arith, div-lt-iff-lt-mul {k = v} {x = b} {y = a / v} p .0 c, div-add-mod' a v))
+    go (no c) = omega arith

@@ -18,26 +18,8 @@ use Rattle.polynomial.proofs.Evals.{eval-sum, eval-product, length-sum, length-
 use Rattle.polynomial.proofs.Sums.{sum-cong, all-cells}
 use Rattle.question.specs.Question.{LawfulQuestion}
 use Rattle.question.specs.SquareSums.{squaresTally, squaresRule, squaresQuestion}
+use Rattle.question.proofs.Tallies.{squaresSum, square, squares-pos, squares-bound}
 use Rattle.question.proofs.Grids.{allowed-grid}
-
--- the same sum, of natural numbers
-unfoldable pub squaresSum : List ℤ → ℕ
-squaresSum [] = 0
-squaresSum (f ∷ fs) = natAbs f * natAbs f + squaresSum fs
-
-pub square : (f : ℤ) → f *ℤ f ≡ pos (natAbs f * natAbs f)
-square (pos a) = refl
-square (negsuc a) = refl
-
-pub squares-pos : (fs : List ℤ) → squaresTally fs ≡ pos (squaresSum fs)
-unfolding squaresSum
-squares-pos [] = refl
-squares-pos (f ∷ fs) = ap₂ _+ℤ_ (square f) (squares-pos fs)
-
-pub squares-bound : (fs : List ℤ) → squaresSum fs ≤ absSum fs * absSum fs
-unfolding squaresSum
-squares-bound [] = omega arith
-squares-bound (f ∷ fs) = omega (arith, squares-bound fs)
 
 module _ {K : Type 0} {F : FieldModel K} (L : LawfulField F) where
   pub squares-limit : (fs : List ℤ) → absSum fs ≤ F .limit → squaresSum fs ≤ F .limit * F .limit

@@ -2,3 +2,5 @@ pub mod Question
 pub mod Cells
 pub mod GoodsSums
 pub mod SquareSums
+pub mod Seasons
+pub mod Theorems

@@ -3,6 +3,7 @@ ghost use Rattle.verifier.specs.Notes.{VerifierKeepsLedger};
 use field::Field;
 
 mod end;
+mod judging;
 mod listening;
 mod sealed;
 mod weighing;

@@ -10,7 +10,7 @@ pub returns : need.returns
 returns g c =
     let is : c .if-self-gt0 .value ≡ (g .P - c .args .self .value) % g .P =
     elim (c .if-self-gt0 .came) [
-      | then-self-gt0 w ↦ w .value-is ∙ sym (mod-eq-of-lt (omega (arith, w .if-self-gt0 .taken)))
+      | then-self-gt0 w ↦ let less : c .if-self-gt0 .value ≡ g .P - c .args .self .value = omega (arith, w .value-is) in less ∙ sym (mod-eq-of-lt (omega (arith, w .if-self-gt0 .taken)))
       | else-self-gt0 w ↦ w .value-is ∙ sym (ap (λ n. n % g .P) (omega (arith, w .if-self-gt0 .left)) ∙ mod-self (g .P))
     ] in
     residue-path is

@@ -19,7 +19,7 @@ returns g c h =
     let rest : c .unsigned-abs-rest .result % g .P ≡ natAbs n % g .P = ap (λ k. k % g .P) (c .unsigned-abs-rest .ensures .value ∙ ap natAbs same) in
     let is : c .if-n-lt0 .value ≡ modulo (g .P) n =
     elim (c .if-n-lt0 .came) [
-      | then-n-lt0·then-rest-gt0 w ↦ w .value-is ∙ ap (λ k. g .P - k) rest ∙ modulo-negative (g .P) n h (below-zero ∙ w .if-n-lt0 .taken) (omega (arith, rest, w .if-rest-gt0 .taken))
+      | then-n-lt0·then-rest-gt0 w ↦ let less : c .if-n-lt0 .value ≡ g .P - natAbs n % g .P = omega (arith, rest, w .value-is) in less ∙ modulo-negative (g .P) n h (below-zero ∙ w .if-n-lt0 .taken) (omega (arith, rest, w .if-rest-gt0 .taken))
       | else-n-lt0 w ↦ elim (w .else-n-lt0 .came) [
         | else-n-lt0·by·then-n-lt0·else-rest-gt0 v ↦ w .value-is ∙ rest ∙ modulo-multiple (g .P) n h (below-zero ∙ v .if-n-lt0 .taken) (omega (arith, rest, v .if-rest-gt0 .left))
         | else-n-lt0·by·else-n-lt0 v ↦ w .value-is ∙ rest ∙ modulo-positive (g .P) n (below-zero ∙ v .if-n-lt0 .left)

@@ -1,0 +1,3 @@
+pub mod Texts
+pub mod Papers
+pub mod Laws

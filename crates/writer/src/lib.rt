@@ -1,0 +1,4 @@
+// Writing a sheet onto paper.
+mod lines;
+mod mark;
+mod put;
