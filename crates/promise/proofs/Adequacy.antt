@@ -7,7 +7,7 @@ use Rattle.promise.proofs.Shapes.{runs-of}
 
 module _ {K : Type 0} (F : FieldModel K) where
   pub every-list-runs : EveryListRuns F
-  every-list-runs = record { verifier = runs-of (verifierEnd F); host = λ text. runs-of (hostEnd F text) }
+  every-list-runs = record { verifier = runs-of (verifierEnd F); host = runs-of (hostEnd F) }
 
   pub granted-anywhere : GrantedAnywhere F
   granted-anywhere o r = refl

@@ -9,7 +9,6 @@ use Rattle.host.specs.Notes.{HostState}
 use Rattle.host.proofs.Stands as host
 use Rattle.verifier.specs.Notes.{VerifierState}
 use Rattle.verifier.proofs.Stands as verifier
-use Rattle.promise.specs.Texts.{Text}
 use Rattle.promise.specs.Ends.{VerifierOpening, verifierEnd, HostOpening, hostEnd}
 use Rattle.promise.proofs.Runs.{Keeps}
 
@@ -31,8 +30,8 @@ module _ {K : Type 0} (F : FieldModel K) where
     standing = λ o l x s. ap (λ z. z .standing) (s .is);
   }
 
-  pub host-keeps : (text : Text K) → Keeps (hostEnd F text) (F .limit) HostStands
-  host-keeps text = record {
+  pub host-keeps : Keeps (hostEnd F) (F .limit) HostStands
+  host-keeps = record {
     begins = λ o u e. host.opened-stands (F .limit) (o .rows) (o .columns) (o .bank) u e;
     answers = λ o l x m s. host.note-answer (F .limit) (o .rows) (o .columns) (drop (o .rows * o .columns) (o .bank)) l x m s;
     follows = λ o l x m s. host.note-stands (F .limit) (o .rows) (o .columns) (drop (o .rows * o .columns) (o .bank)) l x m s;

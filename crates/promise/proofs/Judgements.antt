@@ -1,19 +1,21 @@
 -- What an accepted sheet passed, and that the honest sheet passes on every bank that begins with the columns of the counts. There is no run in it.
--- Assumes nothing but the laws of the field, of the question and of the text of sheets.
+-- Assumes nothing but the laws of the field and of the question.
 use mathlib.Core.Path.{_≡_, refl, sym, _∙_, ap, ap₂, subst}
 use mathlib.Core.Bool.{Bool, true, false, cond, _&&_, true≢false}
 use mathlib.Core.List.{List}
-use Prim.Native.Nat.{ℕ, suc, _≤_}
+use Prim.Native.Nat.{ℕ, suc, _≤_, _<_}
+use native.Mathlib.Omega.{arith}
 use lib.Dec.{leb, ltb}
 use lib.IntN.{ℤ}
 use lib.ListN.{length, take}
 use borrow.Author.Tests.{le-ltb, lt-ltb, le-leb}
 use Rattle.std.specs.declared.result.Result.{Result}
 use Rattle.std.specs.declared.result.Result.the-variants.{Ok, Err}
-use Rattle.field.specs.Field.{FieldModel, LawfulField, same}
+use Rattle.field.specs.Field.{FieldModel, LawfulField, InRange, same}
 use Rattle.field.proofs.Sameness.{same-true, same-eq}
 use Rattle.board.specs.declared.refusal.Refusal.{Refusal}
 use Rattle.board.specs.declared.refusal.Refusal.the-variants.{BankShort, QuestionUnfit, TrayShort}
+use Rattle.board.proofs.Opens.{wide}
 use Rattle.polynomial.specs.Sums.{listSum}
 use Rattle.polynomial.specs.Polynomials.{eval}
 use Rattle.polynomial.specs.Interpolation.{interpolant}
@@ -21,12 +23,13 @@ use Rattle.polynomial.specs.Columns.{columns}
 use Rattle.question.specs.declared.outcome.Fit.{Fit}
 use Rattle.question.specs.declared.outcome.Fit.the-variants as fit
 use Rattle.question.specs.Question.{QuestionModel, Fits, Within, LawfulQuestion}
-use Rattle.protocol.specs.Asking.{isFit, suits, readSheet, claimImage, honest}
+use Rattle.writer.specs.Laws.{TenDigits, Statable, TextFits}
+use Rattle.writer.proofs.Texts.{reads-back}
+use Rattle.protocol.specs.Asking.{isFit, suits, termsOf, readSheet, claimImage, honest}
+use Rattle.host.specs.Answering.{honestSheet}
 use Rattle.verifier.specs.Judging.{judgeReady, weighed, found, settledBy, judged}
 use Rattle.promise.specs.Counts.{AddUp, Agree}
-use Rattle.promise.specs.Texts.{Text, LawfulText}
-use Rattle.promise.specs.Calls.{honestSheet}
-use Rattle.promise.proofs.Values.{degree-small, rows-fit, length-honest, honest-agree, honest-add-up}
+use Rattle.promise.proofs.Values.{claim-range, degree-small, rows-fit, length-honest, honest-agree, honest-add-up}
 
 -- P, of what was given
 abbrev Given : {A : Type 0} → (A → Type 0) → Result A Refusal → Type 0
@@ -87,18 +90,40 @@ module _ {K : Type 0} {F : FieldModel K} (L : LawfulField F) where
     ready-true : (r : K) (bank tray : List K) → v ≤ length bank → suc (q .degree h) ≤ length tray → judgeReady F h v r bank q tray ≡ Ok tt
     ready-true r bank tray b t = rw (le-ltb (length bank) v b, suits-true, lt-ltb (q .degree h) (length tray) t) refl
 
-    module _ (text : Text K) (H : LawfulText F text) (fs : List ℤ) (w : Within F h v fs) where
-      -- the honest sheet is read back
-      honest-read : readSheet F q h v (honestSheet F text h v q fs) ≡ Ok (q .tally h v fs, honest F h v q fs)
-      honest-read = H .reads-back q Q h v fit (q .tally h v fs) (honest F h v q fs) (Q .tally-least h v fit fs w) (Q .tally-most h v fit fs w) (length-honest L q Q h v fit fs)
+    -- the numbers of its sheets have at most ten digits
+    ten-digits : TenDigits (termsOf q h v)
+    ten-digits =
+        let grid = wide h v (fit .grid) in
+        record {
+          rows-fit = omega (arith, grid .rows-most);
+          columns-fit = omega (arith, grid .columns-most);
+          kind-fits = omega (arith, Q .tag-small .0);
+          first-fits = omega (arith, Q .tag-small .1);
+          second-fits = omega (arith, Q .tag-small .2);
+        }
 
-      pub honest-short : length (honestSheet F text h v q fs) ≤ 9216
-      honest-short = H .short q Q h v fit (q .tally h v fs) (honest F h v q fs) (Q .tally-least h v fit fs w) (Q .tally-most h v fit fs w) (length-honest L q Q h v fit fs)
+    module _ (fs : List ℤ) (w : Within F h v fs) where
+      tally-range : InRange (q .tally h v fs)
+      tally-range = claim-range L q Q h v fit (q .tally h v fs) (Q .tally-least h v fit fs w) (Q .tally-most h v fit fs w)
+
+      -- the honest sheet is read back
+      honest-read : readSheet F q h v (honestSheet F h v q fs) ≡ Ok (q .tally h v fs, honest F h v q fs)
+      honest-read = reads-back F L (termsOf q h v) (q .tally h v fs) (honest F h v q fs) (record {
+        terms-fit = ten-digits;
+        degree-fits = omega (arith, degree-small L q Q h v fit);
+        claim-fits = omega (arith, tally-range);
+        least = Q .tally-least h v fit fs w;
+        greatest = Q .tally-most h v fit fs w;
+        count = length-honest L q Q h v fit fs;
+      })
+
+      pub honest-short : TextFits F → length (honestSheet F h v q fs) ≤ 9216
+      honest-short fits = fits (termsOf q h v) (q .tally h v fs) (honest F h v q fs) ten-digits (omega (arith, tally-range)) (omega (arith, length-honest L q Q h v fit fs, degree-small L q Q h v fit))
 
       found-honest : (r : K) → found F h v r (columns F h v fs r) q (Ok (q .tally h v fs, honest F h v q fs)) ≡ Ok (q .tally h v fs)
       found-honest r = rw (same-eq (L .parts) _ _ (honest-add-up L q Q h v fit fs w), same-eq (L .parts) _ _ (honest-agree L q Q h v fit fs r)) refl
 
-      pub honest-accepted : (r : K) (bank : List K) → v ≤ length bank → take v bank ≡ columns F h v fs r → (tray : List K) → suc (q .degree h) ≤ length tray → judged F h v r bank q (honestSheet F text h v q fs) tray .answer ≡ Ok (q .tally h v fs)
+      pub honest-accepted : (r : K) (bank : List K) → v ≤ length bank → take v bank ≡ columns F h v fs r → (tray : List K) → suc (q .degree h) ≤ length tray → judged F h v r bank q (honestSheet F h v q fs) tray .answer ≡ Ok (q .tally h v fs)
       honest-accepted r bank b e tray t =
-          ap (λ a. settledBy F h v r a (take v bank) q (readSheet F q h v (honestSheet F text h v q fs)) tray .answer) (ready-true r bank tray b t)
+          ap (λ a. settledBy F h v r a (take v bank) q (readSheet F q h v (honestSheet F h v q fs)) tray .answer) (ready-true r bank tray b t)
           ∙ ap₂ (λ cs s. found F h v r cs q s) e honest-read ∙ found-honest r

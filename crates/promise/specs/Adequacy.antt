@@ -7,7 +7,6 @@ use Rattle.field.specs.Field.{FieldModel}
 use Rattle.board.specs.declared.game.Move.{Move}
 use Rattle.polynomial.specs.Lists.{Each}
 use Rattle.question.specs.Question.{LawfulQuestion}
-use Rattle.promise.specs.Texts.{Text}
 use Rattle.promise.specs.Ends.{VerifierOpening, verifierEnd, hostEnd}
 use Rattle.promise.specs.Shapes.{RunsOf}
 use Rattle.promise.specs.Claims.{Entry, FalseClaim, claimsFalsely}
@@ -21,7 +20,7 @@ module _ {K : Type 0} (F : FieldModel K) where
   -- at both ends the lists of requests that have a run are those of the form, and each has exactly one
   pub record EveryListRuns : Type 0 where
     pub verifier : RunsOf (verifierEnd F)
-    pub host : (text : Text K) → RunsOf (hostEnd F text)
+    pub host : RunsOf (hostEnd F)
 
   -- whether a box is opened does not depend on its point
   abbrev pub GrantedAnywhere : Type 0

@@ -4,13 +4,12 @@ use Prim.Native.Nat.{ℕ}
 use lib.IntN.{ℤ}
 use Rattle.field.specs.Field.{FieldModel}
 use Rattle.question.specs.Question.{QuestionModel}
+use Rattle.host.specs.Answering.{Answered, answered}
 use Rattle.host.specs.Calls.{hostOpenAnswer, hostNoteAnswer}
 use Rattle.host.specs.Notes.{HostState, hostOpened, hostNoted}
+use Rattle.verifier.specs.Judging.{Judgement, judged}
 use Rattle.verifier.specs.Calls.{verifierOpenAnswer, verifierNoteAnswer}
 use Rattle.verifier.specs.Notes.{VerifierState, verifierOpened, verifierNoted}
-use Rattle.verifier.specs.Judging.{Judgement, judged}
-use Rattle.promise.specs.Texts.{Text}
-use Rattle.promise.specs.Calls.{Answered, answered}
 use Rattle.promise.specs.Runs.{End}
 
 -- what opening a box takes
@@ -54,15 +53,15 @@ module _ {K : Type 0} (F : FieldModel K) where
   }
 
   -- the host: answering changes neither its standing nor its bank
-  abbrev pub hostEnd : Text K → End HostOpening HostState (Answering K) (Answered K)
-  hostEnd text = record {
+  abbrev pub hostEnd : End HostOpening HostState (Answering K) (Answered K)
+  hostEnd = record {
     rows = λ o. o .rows;
     columns = λ o. o .columns;
     grant = λ o. hostOpenAnswer (o .rows) (o .columns) (o .bank);
     begin = λ o. hostOpened (o .rows) (o .columns) (o .bank);
     note = λ x m. hostNoteAnswer (F .limit) (x .standing) (x .bank) m;
     noted = λ x m. hostNoted (F .limit) x m;
-    reply = λ x a. answered F text (x .standing .rows) (x .standing .columns) (x .bank) (a .question) (a .tray) (a .paper);
+    reply = λ x a. answered F (x .standing .rows) (x .standing .columns) (x .bank) (a .question) (a .tray) (a .paper);
     replied = λ x a. x;
     standing = λ x. x .standing;
   }

@@ -2,8 +2,6 @@ pub mod Runs
 pub mod Ledgers
 pub mod Shapes
 pub mod Counts
-pub mod Texts
-pub mod Calls
 pub mod Ends
 pub mod Claims
 pub mod Sealed

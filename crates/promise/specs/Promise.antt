@@ -14,9 +14,9 @@ use Rattle.polynomial.specs.Lists.{Each, Distinct}
 use Rattle.polynomial.specs.Columns.{columns}
 use Rattle.question.specs.declared.outcome.Fit.the-variants as fit
 use Rattle.question.specs.Question.{QuestionModel, LawfulQuestion}
+use Rattle.writer.specs.Laws.{TextFits}
 use Rattle.host.specs.Notes.{HostState}
 use Rattle.verifier.specs.Notes.{VerifierState}
-use Rattle.promise.specs.Texts.{Text, LawfulText}
 use Rattle.promise.specs.Runs.{Request, closed, moves, Shaped, after, granted}
 use Rattle.promise.specs.Ledgers.{Open, AlwaysLedger}
 use Rattle.promise.specs.Ends.{VerifierOpening, Judging, verifierEnd, HostOpening, Answering, hostEnd}
@@ -29,9 +29,9 @@ LongPaper paper = 9216 ≤ length paper
 
 module _ {K : Type 0} (F : FieldModel K) where
   -- for every lawful question that fits, with tray and paper long enough, a host answers honestly, after whatever it was asked before
-  abbrev pub HonestAccepted : Text K → Type 0
-  HonestAccepted text =
-      (h v : ℕ) (ms : List Move) (run : SealedHost F h v ms text) (q : QuestionModel K) → LawfulQuestion F q → q .fits h v ≡ fit.Fits
+  abbrev pub HonestAccepted : Type 0
+  HonestAccepted =
+      (h v : ℕ) (ms : List Move) (run : SealedHost F h v ms) (q : QuestionModel K) → LawfulQuestion F q → q .fits h v ≡ fit.Fits
       → (tray : List K) → suc (q .degree h) + v ≤ length tray → (paper : List ℕ) → LongPaper paper
       → HonestAnswer F h v ms q tray paper (hostGives F h v ms run q tray paper)
 
@@ -56,22 +56,22 @@ module _ {K : Type 0} (F : FieldModel K) where
       → take (o .columns) (x .bank) ≡ columns F (o .rows) (o .columns) (ledger (o .rows) (o .columns) (F .limit) (moves rs) .counts) (o .point)
 
   -- after every request the host's bank begins with its ledger's counts
-  abbrev pub HostCounts : Text K → Type 0
-  HostCounts text =
-      (rs : List (Request HostOpening (Answering K))) → Shaped (hostEnd F text) closed rs → (o : HostOpening) → granted (hostEnd F text) rs ≡ some o
-      → (x : HostState) → Open (after (hostEnd F text) closed rs) x
+  abbrev pub HostCounts : Type 0
+  HostCounts =
+      (rs : List (Request HostOpening (Answering K))) → Shaped (hostEnd F) closed rs → (o : HostOpening) → granted (hostEnd F) rs ≡ some o
+      → (x : HostState) → Open (after (hostEnd F) closed rs) x
       → take (o .rows * o .columns) (x .bank) ≡ ledger (o .rows) (o .columns) (F .limit) (moves rs) .counts
 
   -- the promise as one whole
-  pub record Promised (text : Text K) : Type 0 where
-    pub honest-accepted : HonestAccepted text
+  pub record Promised : Type 0 where
+    pub honest-accepted : HonestAccepted
     pub few-points : FewPoints
     pub others-true : OthersTrue
     pub verifier-ledger : AlwaysLedger (verifierEnd F) (F .limit)
-    pub host-ledger : AlwaysLedger (hostEnd F text) (F .limit)
+    pub host-ledger : AlwaysLedger (hostEnd F) (F .limit)
     pub verifier-sums : VerifierSums
-    pub host-counts : HostCounts text
+    pub host-counts : HostCounts
 
--- whatever lawful text a host writes
+-- where a sheet's text fits the paper
 abbrev pub Promise : {K : Type 0} → FieldModel K → Type 0
-Promise {K} F = (text : Text K) → LawfulText F text → Promised F text
+Promise F = TextFits F → Promised F

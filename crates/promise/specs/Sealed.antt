@@ -15,11 +15,10 @@ use Rattle.polynomial.specs.Interpolation.{node}
 use Rattle.polynomial.specs.Columns.{columns}
 use Rattle.question.specs.Question.{QuestionModel}
 use Rattle.protocol.specs.Asking.{honest}
+use Rattle.host.specs.Answering.{Answered, trayFilled}
 use Rattle.host.specs.Notes.{HostState}
-use Rattle.verifier.specs.Notes.{VerifierState}
 use Rattle.verifier.specs.Judging.{Judgement}
-use Rattle.promise.specs.Texts.{Text}
-use Rattle.promise.specs.Calls.{Answered}
+use Rattle.verifier.specs.Notes.{VerifierState}
 use Rattle.promise.specs.Runs.{Request, closed, sealed, moves, Shaped, after, granted, replies}
 use Rattle.promise.specs.Ends.{VerifierOpening, Judging, verifierEnd, HostOpening, Answering, hostEnd}
 use Rattle.promise.specs.Claims.{Entry, trueCount, claimsFalsely}
@@ -61,20 +60,20 @@ module _ {K : Type 0} (F : FieldModel K) (h v : ℕ) (ms : List Move) where
     pub accepts : Any (λ g. (c : ℤ) × (g .1 .answer ≡ Ok c) × (claimsFalsely F h v ms (entryOf (g .0)) ≡ true)) (judgings (judges .run))
 
   -- a run of a host on h rows and v columns, told the moves ms, and sealed at its end
-  pub record SealedHost (text : Text K) : Type 0 where
+  pub record SealedHost : Type 0 where
     pub requests : List (Request HostOpening (Answering K))
-    pub shaped : Shaped (hostEnd F text) closed requests
+    pub shaped : Shaped (hostEnd F) closed requests
     pub opened : HostOpening
-    pub grants : granted (hostEnd F text) requests ≡ some opened
+    pub grants : granted (hostEnd F) requests ≡ some opened
     pub rows : opened .rows ≡ h
     pub columns : opened .columns ≡ v
     pub told : moves requests ≡ ms
     pub host : HostState
-    pub ends : after (hostEnd F text) closed requests ≡ sealed host
+    pub ends : after (hostEnd F) closed requests ≡ sealed host
 
   -- what the host of such a run gives for a question
-  abbrev pub hostGives : {text : Text K} → SealedHost text → QuestionModel K → List K → List ℕ → Answered K
-  hostGives {text} run q tray paper = hostEnd F text .reply (run .host) (record { question = q; tray = tray; paper = paper })
+  abbrev pub hostGives : SealedHost → QuestionModel K → List K → List ℕ → Answered K
+  hostGives run q tray paper = hostEnd F .reply (run .host) (record { question = q; tray = tray; paper = paper })
 
   -- what an honest host gives for a question: the true count, the values of the question's polynomial at 0 to D with the columns at D behind them,
   -- and on the paper a sheet that every box told the same moves accepts at its point with the true count
