@@ -1,4 +1,4 @@
--- An honest host's sheet is accepted at every point. Assumes nothing but the laws of the field, of the question and of the text of sheets.
+-- An honest host's sheet is accepted at every point. Assumes nothing but the laws of the field and of the question.
 use mathlib.Core.Path.{_≡_, refl, _∙_, ap, subst₃}
 use mathlib.Core.Logic.{inr}
 use mathlib.Core.Bool.{true}
@@ -61,9 +61,9 @@ module _ {K : Type 0} (F : FieldModel K) where
         inside = omega (arith, honest-short L q Q h v fit fs w H);
         values = ap (λ z. z .tray) given;
         rest = ap (drop n) left ∙ drop-at sheet (drop n paper) n refl;
-        accepted = λ r box long t′.
+        accepted = λ r box tray′ t′.
             let z = settled L h v ms r box .holds in
-            ap (λ j. j .answer) (z .judges (record { question = q; sheet = take n (hostGives F h v ms run q tray paper .paper); tray = long }))
-            ∙ ap (λ bs. judged F h v r (z .bank) q bs long .answer) (ap (take n) left ∙ take-at sheet (drop n paper) n refl)
-            ∙ honest-accepted L q Q h v fit fs w r (z .bank) (z .long) (z .right) long t′;
+            ap (λ j. j .answer) (z .judges (record { question = q; sheet = take n (hostGives F h v ms run q tray paper .paper); tray = tray′ }))
+            ∙ ap (λ bs. judged F h v r (z .bank) q bs tray′ .answer) (ap (take n) left ∙ take-at sheet (drop n paper) n refl)
+            ∙ honest-accepted L q Q h v fit fs w r (z .bank) (z .long) (z .right) tray′ t′;
       }

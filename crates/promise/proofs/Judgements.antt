@@ -3,7 +3,7 @@
 use mathlib.Core.Path.{_≡_, refl, sym, _∙_, ap, ap₂, subst}
 use mathlib.Core.Bool.{Bool, true, false, cond, _&&_, true≢false}
 use mathlib.Core.List.{List}
-use Prim.Native.Nat.{ℕ, suc, _≤_, _<_}
+use Prim.Native.Nat.{ℕ, suc, _≤_}
 use native.Mathlib.Omega.{arith}
 use lib.Dec.{leb, ltb}
 use lib.IntN.{ℤ}
@@ -23,7 +23,7 @@ use Rattle.polynomial.specs.Columns.{columns}
 use Rattle.question.specs.declared.outcome.Fit.{Fit}
 use Rattle.question.specs.declared.outcome.Fit.the-variants as fit
 use Rattle.question.specs.Question.{QuestionModel, Fits, Within, LawfulQuestion}
-use Rattle.writer.specs.Laws.{TenDigits, Statable, TextFits}
+use Rattle.writer.specs.Laws.{TenDigits, TextFits}
 use Rattle.writer.proofs.Texts.{reads-back}
 use Rattle.protocol.specs.Asking.{isFit, suits, termsOf, readSheet, claimImage, honest}
 use Rattle.host.specs.Answering.{honestSheet}

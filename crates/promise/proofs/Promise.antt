@@ -1,5 +1,5 @@
 -- The promise as one whole. Assumes nothing but the laws of the field, and of the questions.
-use mathlib.Core.Path.{_≡_, _∙_, ap}
+use mathlib.Core.Path.{_∙_, ap}
 use Prim.Native.Nat.{_*_}
 use lib.ListN.{take}
 use Rattle.field.specs.Field.{FieldModel, LawfulField}
