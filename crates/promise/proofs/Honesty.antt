@@ -13,7 +13,6 @@ use Rattle.board.specs.declared.game.Move.{Move}
 use Rattle.board.specs.Grids.{gridAllowed}
 use Rattle.board.specs.Ledger.{ledger}
 use Rattle.question.specs.Question.{Fits}
-use Rattle.writer.specs.Laws.{TextFits}
 use Rattle.host.specs.Answering.{answered, honestSheet}
 use Rattle.host.specs.Notes.{HostState}
 use Rattle.verifier.specs.Judging.{judged}
@@ -45,8 +44,8 @@ module _ {K : Type 0} (F : FieldModel K) where
       there : Counting (run .opened .rows) (run .opened .columns) (moves (run .requests)) (run .host)
       there = record { bank = s .bank; allowed = s .allowed; long = s .long; right = s .right; answers = λ a. ap (λ z. hostEnd F .reply z a) (s .is) }
 
-  pub honest-answers : LawfulField F → TextFits F → HonestAccepted F
-  honest-answers L H h v ms run q Q f tray t paper p =
+  pub honest-answers : LawfulField F → HonestAccepted F
+  honest-answers L h v ms run q Q f tray t paper p =
       let k = counting h v ms run in
       let fs = countsOf F h v ms in
       let fit : Fits q h v = record { grid = k .allowed; fit = f } in
@@ -58,7 +57,7 @@ module _ {K : Type 0} (F : FieldModel K) where
       record {
         size = n;
         answer = ap (λ z. z .answer) given;
-        inside = omega (arith, honest-short L q Q h v fit fs w H);
+        inside = omega (arith, honest-short L q Q h v fit fs w);
         values = ap (λ z. z .tray) given;
         rest = ap (drop n) left ∙ drop-at sheet (drop n paper) n refl;
         accepted = λ r box tray′ t′.

@@ -13,7 +13,6 @@ use Rattle.polynomial.specs.Lists.{Each, Distinct}
 use Rattle.polynomial.specs.Columns.{columns}
 use Rattle.question.specs.declared.outcome.Fit.the-variants as fit
 use Rattle.question.specs.Question.{QuestionModel, LawfulQuestion}
-use Rattle.writer.specs.Laws.{TextFits}
 use Rattle.host.specs.Notes.{HostState}
 use Rattle.verifier.specs.Notes.{VerifierState}
 use Rattle.promise.specs.Runs.{Request, closed, moves, Shaped, after, granted}
@@ -70,7 +69,3 @@ module _ {K : Type 0} (F : FieldModel K) where
     pub host-ledger : AlwaysLedger (hostEnd F) (F .limit)
     pub verifier-sums : VerifierSums
     pub host-counts : HostCounts
-
--- where a sheet's text fits the paper
-abbrev pub Promise : {K : Type 0} → FieldModel K → Type 0
-Promise F = TextFits F → Promised F

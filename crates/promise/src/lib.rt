@@ -1,13 +1,13 @@
 // What a host and a box promise together, over every lawful field. Each contract is one theorem.
 ghost use Rattle.promise.specs.Adequacy.{EveryListRuns, SealedRuns, GrantedAnywhere, TestsFalseClaims, NoneOnOneRow};
 ghost use Rattle.promise.specs.Counts.{ValuesAgainstCounts};
-ghost use Rattle.promise.specs.Promise.{Promise};
+ghost use Rattle.promise.specs.Promise.{Promised};
 ghost use Rattle.promise.specs.WorkedBoard.{BoundReached};
 use field::Field;
 
 // Honest sheets are accepted at every point, false claims at few, and both ends keep to the ledger.
 pub fn the_whole_promise<F: Field>() -> u8
-    ensures { λ _. ⌜ Promise (F·Field .model) ⌝ }
+    ensures { λ _. ⌜ Promised (F·Field .model) ⌝ }
 {
     0
 }
