@@ -7,7 +7,7 @@ use native.Mathlib.Omega.{arith}
 use lib.ListN.{length}
 use Rattle.field.specs.Field.{FieldModel, LawfulField}
 use Rattle.polynomial.specs.Lists.{Each, Any, Distinct}
-use Rattle.polynomial.specs.Polynomials.{eval, Root, Bounded, degrees, Counting}
+use Rattle.polynomial.specs.Polynomials.{eval, Root, Bounded, Counting}
 use Rattle.field.proofs.Sameness.{decided}
 use Rattle.polynomial.proofs.Roots.{root-bound}
 

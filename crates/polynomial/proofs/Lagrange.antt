@@ -6,13 +6,14 @@ use Prim.Native.Nat.{ℕ, zero, suc, _+_, _≤_, _<_}
 use native.Mathlib.Omega.{arith}
 use lib.ListN.{length, getD}
 use Rattle.field.specs.Field.{FieldModel, LawfulField}
-use Rattle.polynomial.specs.Polynomials.{sub, eval, scaled, sum, product, Root}
+use Rattle.polynomial.specs.Polynomials.{sub, eval, scaled, sum, product, Root, Nonzero}
 use Rattle.polynomial.specs.Interpolation.{except, node, factor, chi, linear, basis, blend, interpolant, Takes, LagrangeBasis, Interpolation}
 use Rattle.field.proofs.Solver.{sides, solve, mul-zero, zero-mul, zero-add}
 use Rattle.field.proofs.Sameness.{decided}
+use Rattle.field.proofs.Consequences.{one-not-zero}
 use Rattle.polynomial.proofs.Evals.{eval-scaled, eval-sum, eval-product, length-scaled, length-sum, length-product}
 use Rattle.polynomial.proofs.Roots.{root-bound, sub-zero}
-use Rattle.polynomial.proofs.Nodes.{sub-nonzero, nodes, length-nodes, each-node, distinct-nodes}
+use Rattle.polynomial.proofs.Nodes.{sub-nonzero, nodes, length-nodes, each-node, distinct-nodes, others, length-others, each-other, distinct-others}
 use Rattle.polynomial.proofs.Excepts.{eqb-cases, except-same, except-other, except-cong, except-map}
 
 module _ {K : Type 0} {F : FieldModel K} (L : LawfulField F) where
@@ -70,9 +71,22 @@ module _ {K : Type 0} {F : FieldModel K} (L : LawfulField F) where
   pub chi-elsewhere : (h x y : ℕ) → y < h → y ≢ x → chi F h x (node F y) ≡ F .zero
   chi-elsewhere h x y b d = vanishes _ h x y b d (ap (λ w. F .mul w (F .inv (sub F (node F x) (node F y)))) (L .ring .add-neg (node F y)) ∙ zero-mul (L .ring) _)
 
+  -- with fewer coefficients χ_x would have more roots than its degree
+  no-shorter : (h x : ℕ) → h ≤ 65537 → x < h → (p : List K) → ((X : K) → eval F p X ≡ chi F h x X) → h ≤ length p
+  no-shorter h x b c [] e = absurd (one-not-zero L (sym (chi-here h x b (omega arith)) ∙ sym (e (node F x))))
+  no-shorter h x b c (a ∷ p) e =
+      omega (arith, length-others L h x, root-bound L (length p) (a ∷ p) (omega arith) nonzero (others L h x) (distinct-others L h x b) (each-other L (Root F (a ∷ p)) h x roots))
+    where
+      nonzero : Nonzero F (a ∷ p)
+      nonzero = (node F x, λ z. one-not-zero L (sym (chi-here h x b (omega arith)) ∙ sym (e (node F x)) ∙ z))
+
+      roots : (k : ℕ) → k < h → k ≢ x → Root F (a ∷ p) (node F k)
+      roots k d n = e (node F k) ∙ chi-elsewhere h x k d n
+
   pub lagrange-basis : LagrangeBasis F
   lagrange-basis h x b c = record {
     fits = length-basis h x c;
+    least = no-shorter h x b c;
     value = eval-basis h x;
     here = chi-here h x b (omega arith);
     elsewhere = λ y e d. chi-elsewhere h x y e d;

@@ -1,7 +1,7 @@
 -- The nodes 0, 1, 2, .. differ from one another. Assumes nothing but the laws of the field.
-use mathlib.Core.Path.{_≡_, refl, sym, _∙_, ap}
-use mathlib.Core.Logic.{_≢_}
-use mathlib.Core.List.{List, [], _∷_}
+use mathlib.Core.Path.{_≡_, refl, sym, _∙_, ap, subst}
+use mathlib.Core.Logic.{_≢_, _⊎_, inl, inr}
+use mathlib.Core.List.{List, [], _∷_, _++_}
 use Prim.Native.Nat.{ℕ, zero, suc, _+_, _-_, _≤_, _<_}
 use native.Mathlib.Omega.{arith}
 use native.Mathlib.Decide.{decLt}
@@ -12,8 +12,9 @@ use Rattle.field.proofs.Solver.{sides, solve, add-cancel}
 use Rattle.field.proofs.Consequences.{image-nonzero, inv-neg}
 use Rattle.polynomial.specs.Lists.{Each, Distinct}
 use Rattle.polynomial.specs.Polynomials.{sub}
-use Rattle.polynomial.specs.Interpolation.{node}
+use Rattle.polynomial.specs.Interpolation.{except, node}
 use Rattle.polynomial.proofs.Roots.{sub-zero}
+use Rattle.polynomial.proofs.Excepts.{eqb-cases, except-same, except-other}
 
 module _ {K : Type 0} {F : FieldModel K} (L : LawfulField F) where
   pub node-add : (m n : ℕ) → m + n ≤ 2147483647 → node F (m + n) ≡ F .add (node F m) (node F n)
@@ -73,3 +74,40 @@ module _ {K : Type 0} {F : FieldModel K} (L : LawfulField F) where
   distinct-nodes zero h = tt
   distinct-nodes (suc n) h =
       (each-node (λ y. node F n ≢ y) n (λ k b. nodes-differ n k (omega arith) (omega arith) (omega arith)), distinct-nodes n (omega arith))
+
+  -- the nodes below n but x
+  pub others : ℕ → ℕ → List K
+  others n x = except _++_ [] (λ k. node F k ∷ []) n x
+
+  pub length-others : (n x : ℕ) → n ≤ suc (length (others n x))
+  unfolding others
+  length-others zero x = omega arith
+  length-others (suc n) x = go (eqb-cases n x) (length-others n x) (beyond n x)
+    where
+      go : (n ≡ x) ⊎ (n ≢ x) → n ≤ suc (length (others n x)) → (n ≤ x → length (others n x) ≡ n) → suc n ≤ suc (length (others (suc n) x))
+      go (inl e) r b = omega (arith, ap length (except-same _++_ [] (λ k. node F k ∷ []) n x e), b (omega arith))
+      go (inr e) r b = omega (arith, ap length (except-other _++_ [] (λ k. node F k ∷ []) n x e))
+
+      beyond : (n x : ℕ) → n ≤ x → length (others n x) ≡ n
+      beyond zero x h = refl
+      beyond (suc n) x h = ap length (except-other _++_ [] (λ k. node F k ∷ []) n x (omega arith)) ∙ ap suc (beyond n x (omega arith))
+
+  pub each-other : (P : K → Type 0) (n x : ℕ) → ((k : ℕ) → k < n → k ≢ x → P (node F k)) → Each P (others n x)
+  unfolding others
+  each-other P zero x h = tt
+  each-other P (suc n) x h = go (eqb-cases n x) (each-other P n x (λ k b d. h k (omega arith) d))
+    where
+      go : (n ≡ x) ⊎ (n ≢ x) → Each P (others n x) → Each P (others (suc n) x)
+      go (inl e) r = subst (Each P) (sym (except-same _++_ [] (λ k. node F k ∷ []) n x e)) r
+      go (inr e) r = subst (Each P) (sym (except-other _++_ [] (λ k. node F k ∷ []) n x e)) (h n (omega arith) e, r)
+
+  pub distinct-others : (n x : ℕ) → n ≤ 65537 → Distinct (others n x)
+  unfolding others
+  distinct-others zero x h = tt
+  distinct-others (suc n) x h = go (eqb-cases n x) (distinct-others n x (omega arith))
+    where
+      go : (n ≡ x) ⊎ (n ≢ x) → Distinct (others n x) → Distinct (others (suc n) x)
+      go (inl e) r = subst Distinct (sym (except-same _++_ [] (λ k. node F k ∷ []) n x e)) r
+      go (inr e) r =
+          subst Distinct (sym (except-other _++_ [] (λ k. node F k ∷ []) n x e))
+          (each-other (λ y. node F n ≢ y) n x (λ k b d. nodes-differ n k (omega arith) (omega arith) (omega arith)), r)

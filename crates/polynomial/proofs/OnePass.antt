@@ -7,7 +7,7 @@ use native.Mathlib.Omega.{arith}
 use lib.ListN.{length}
 use Rattle.field.specs.Field.{FieldModel, LawfulField}
 use Rattle.polynomial.specs.Polynomials.{sub}
-use Rattle.polynomial.specs.Interpolation.{except, node, factor, chi}
+use Rattle.polynomial.specs.Interpolation.{except, node, chi}
 use Rattle.polynomial.specs.OnePass.{lead, nextWeight, pass, OnePass}
 use Rattle.field.proofs.Solver.{sides, solve, zero-mul, zero-add, one-mul, neg-zero}
 use Rattle.polynomial.proofs.Nodes.{node-add, sub-nonzero}

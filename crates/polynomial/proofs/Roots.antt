@@ -6,7 +6,7 @@ use Prim.Native.Nat.{ℕ, zero, suc, _≤_}
 use native.Mathlib.Omega.{arith}
 use lib.ListN.{length}
 use Rattle.field.specs.Field.{FieldModel, LawfulField}
-use Rattle.polynomial.specs.Lists.{Each, Distinct}
+use Rattle.polynomial.specs.Lists.{Each}
 use Rattle.polynomial.specs.Polynomials.{sub, eval, Root, Nonzero, RootBound}
 use Rattle.field.proofs.Solver.{sides, solve, mul-zero, zero-add}
 use Rattle.field.proofs.Consequences.{factor-zero}

@@ -49,9 +49,10 @@ module _ {K : Type 0} (F : FieldModel K) where
   abbrev pub Takes : List K → List K → Type 0
   Takes p vs = (k : ℕ) → k < length vs → eval F p (node k) ≡ getD vs k (F .zero)
 
--- χ_x on h rows is a polynomial of degree h − 1 at most, one at x and zero at the other rows
+-- χ_x on h rows is a polynomial of degree h − 1, and no less, one at x and zero at the other rows
 pub record IsBasis {K : Type 0} (F : FieldModel K) (h x : ℕ) : Type 0 where
   pub fits : length (basis F h x) ≤ h
+  pub least : (p : List K) → ((X : K) → eval F p X ≡ chi F h x X) → h ≤ length p
   pub value : (X : K) → eval F (basis F h x) X ≡ chi F h x X
   pub here : chi F h x (node F x) ≡ F .one
   pub elsewhere : (y : ℕ) → y < h → y ≢ x → chi F h x (node F y) ≡ F .zero

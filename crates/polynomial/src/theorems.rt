@@ -26,7 +26,7 @@ pub fn roots_of_several<F: Field>() -> u8
     0
 }
 
-// χ_x on h rows is a polynomial of degree at most h − 1, one at x and zero at the other rows.
+// χ_x on h rows is a polynomial of degree h − 1, one at x and zero at the other rows.
 pub fn lagrange_basis<F: Field>() -> u8
     ensures { λ _. ⌜ LagrangeBasis (F·Field .model) ⌝ }
 {

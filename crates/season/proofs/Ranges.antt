@@ -3,16 +3,13 @@ use mathlib.Core.Path.{_≡_, refl, sym, _∙_, ap, ap₂}
 use mathlib.Core.List.{List, [], _∷_}
 use Prim.Native.Nat.{ℕ, zero, suc, _+_, _*_, _-_, _/_, _%_, _≤_, _<_}
 use native.Mathlib.Nat.{div-add-mod', mod-lt}
-use native.Mathlib.Numerals.{add-one}
 use native.Mathlib.Omega.{arith}
 use lib.Arith.{digits-div, digits-mod}
-use lib.IntN.{ℤ, pos, _+ℤ_, natAbs, +ℤ-assoc, +ℤ-comm}
+use lib.IntN.{ℤ, pos, _+ℤ_}
 use lib.ListN.{length, getD, take, drop}
 use lib.Seq.{take-all}
 use Rattle.field.specs.Field.{FieldModel, LawfulField}
-use Rattle.field.proofs.Solver.{sides, solve, mul-zero, zero-mul}
-use Rattle.board.specs.Ledger.{absSum}
-use Rattle.board.proofs.Ledgers.{abs-add}
+use Rattle.field.proofs.Solver.{mul-zero}
 use Rattle.polynomial.specs.Lists.{listed}
 use Rattle.polynomial.specs.Sums.{sumFrom, listSum}
 use Rattle.polynomial.specs.Interpolation.{chi}

@@ -1,4 +1,4 @@
-use mathlib.Core.Path.{sym, ap}
+use mathlib.Core.Path.{ap}
 use native.Mathlib.Omega.{arith}
 use Rattle.polynomial.proofs.Nodes.{node-less, inv-less}
 use Rattle.polynomial.proofs.basis.difference_inverse.Needs as need

@@ -1,5 +1,4 @@
 use mathlib.Core.Path.{_∙_, ap}
-use native.Mathlib.Omega.{arith}
 use lib.Seq.{take-all}
 use borrow.Author.Needs.{needs}
 use Rattle.polynomial.specs.Sums.{listSum}

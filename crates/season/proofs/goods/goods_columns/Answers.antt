@@ -1,5 +1,7 @@
 use mathlib.Core.Path.{_∙_, ap}
 use mathlib.Core.Bool.{true, false}
+use Prim.Native.Nat.{_%_}
+use native.Mathlib.Omega.{arith}
 use borrow.Author.Tests.{eq-eqb, ne-eqb}
 use lib.Seq.{take-all}
 use Rattle.question.specs.GoodsSums.{goodsRule}
@@ -14,10 +16,10 @@ loop-y-again g c =
     let so-far = c .loop-y .inv in
     elim (c .if-y-kind .came) [
       | then-y-kind w ↦
-          let more = goods-more L (c .args .kind) cs (c .loop-y .y) (c .index-columns-y .result) true (c .loop-y-test .taken) (c .index-columns-y .is) (eq-eqb _ _ (w .if-y-kind .taken)) in
+          let more = goods-more L (c .args .kind) cs (c .loop-y .y) (c .index-columns-y .result) true (c .loop-y-test .taken) (c .index-columns-y .is) (eq-eqb (c .loop-y .y % 8) (c .args .kind) (omega arith)) in
           cc
       | else-y-kind w ↦
-          let more = goods-more L (c .args .kind) cs (c .loop-y .y) (c .index-columns-y .result) false (c .loop-y-test .taken) (c .index-columns-y .is) (ne-eqb _ _ (w .if-y-kind .left)) in
+          let more = goods-more L (c .args .kind) cs (c .loop-y .y) (c .index-columns-y .result) false (c .loop-y-test .taken) (c .index-columns-y .is) (ne-eqb (c .loop-y .y % 8) (c .args .kind) (omega arith)) in
           let none = L .ring .add-zero (c .loop-y .all) in
           cc
     ]

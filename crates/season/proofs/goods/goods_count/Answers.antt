@@ -1,6 +1,6 @@
-use mathlib.Core.Path.{_≡_, sym, _∙_, ap}
+use mathlib.Core.Path.{_≡_, _∙_, ap}
 use mathlib.Core.Bool.{true, false}
-use Prim.Native.Nat.{_≤_}
+use Prim.Native.Nat.{_%_, _≤_}
 use native.Mathlib.Omega.{arith}
 use lib.IntN.{pos, natAbs, +ℤ-idr}
 use lib.ListN.{getD, take}
@@ -34,13 +34,13 @@ loop-i-again c =
     let before : natAbs (goodsTally (c .args .kind) 0 (take i fs)) ≤ 46340 = omega (arith, goods-abs (c .args .kind) 0 (take i fs), abs-take i fs) in
     elim (c .if-i-kind .came) [
       | then-i-kind w ↦
-          let more = goods-more (c .args .kind) fs i true (c .loop-i-test .taken) (eq-eqb _ _ (w .if-i-kind .taken)) in
+          let more = goods-more (c .args .kind) fs i true (c .loop-i-test .taken) (eq-eqb (i % 8) (c .args .kind) (omega arith)) in
           let x-is = w .from-all .ensures ∙ toZ-ofZ w32 f (fits-32 f small) in
           let sum = added (goodsTally (c .args .kind) 0 (take i fs)) f (omega arith) (omega arith) in
           let q = w .all-is in
           cc
       | else-i-kind w ↦
-          let more = goods-more (c .args .kind) fs i false (c .loop-i-test .taken) (ne-eqb _ _ (w .if-i-kind .left)) in
+          let more = goods-more (c .args .kind) fs i false (c .loop-i-test .taken) (ne-eqb (i % 8) (c .args .kind) (omega arith)) in
           let none = +ℤ-idr (goodsTally (c .args .kind) 0 (take i fs)) in
           cc
     ]

@@ -2,7 +2,7 @@ use mathlib.Core.Path.{_≡_, _∙_, ap}
 use Prim.Native.Nat.{_≤_}
 use native.Mathlib.Omega.{arith}
 use lib.IntN.{pos, natAbs, _*ℤ_}
-use lib.ListN.{getD, take}
+use lib.ListN.{getD}
 use lib.Seq.{take-all}
 use mir.Syntax.{w64}
 use mir.Val.{toZ, ofZ}
