@@ -15,7 +15,7 @@ use Rattle.token.specs.Tokens.{leadingSpaces, lineEndsIn, tokenAt, Cursor, curs
 use Rattle.token.proofs.Shows.{spaces-of}
 use Rattle.token.proofs.Places.{ends-append, skip-line, skip-place}
 use Rattle.sheet.specs.declared.terms.Terms.{Terms}
-use Rattle.sheet.specs.Dues.{Due, Verdict.wrong, Passed, check, pass}
+use Rattle.expect.specs.Dues.{Due, Verdict.wrong, Passed, check, pass}
 use Rattle.sheet.specs.Readings.{due, concluded, valued, reading}
 use Rattle.layout.specs.Marks.{Mark, Layout}
 use Rattle.layout.specs.Faults.{dueMarks, FirstFault, TellsFirst, RefusesSheets}

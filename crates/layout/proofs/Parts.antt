@@ -14,7 +14,7 @@ use Rattle.std.proofs.shelf.Ways.{tells}
 use Rattle.board.specs.declared.refusal.Refusal.{Refusal}
 use Rattle.token.specs.Tokens.{Cursor, cursorStart}
 use Rattle.sheet.specs.declared.terms.Terms.{Terms}
-use Rattle.sheet.specs.Dues.{Passed, pass}
+use Rattle.expect.specs.Dues.{Passed, pass}
 use Rattle.sheet.specs.Readings.{highLimit, due, lines, paired, concluded, parsed}
 use Rattle.sheet.proofs.Fills.{flat, paired-flat}
 use Rattle.sheet.proofs.Passes.{high-fits, high-only}

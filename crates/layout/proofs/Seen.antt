@@ -18,9 +18,9 @@ use Rattle.board.specs.declared.refusal.Fault.the-variants as fault
 use Rattle.token.specs.Tokens as tokens
 use Rattle.token.specs.Tokens.{Token, isWord, leadingSpaces, kind, spelling, alike, isMalformed, tokenAt, width, Cursor, skipSpaces, afterToken, nextToken}
 use Rattle.token.proofs.Shows.{spaces-split, spaces-of, Shows, shows, Runs, solid-word, lone-number, sees-word, sees-number, no-space}
-use Rattle.sheet.specs.declared.keyword.Keyword.{Keyword}
-use Rattle.sheet.specs.declared.keyword.Keyword.the-variants as keyword
-use Rattle.sheet.specs.Dues.{spelled, Fixed, Fixed.opening, Fixed.closing, Fixed.lineEnd, Fixed.sheetEnd, Fixed.word, fixedToken, Due, Due.the, Due.equal, Due.within, Verdict, Verdict.wrong, Verdict.fine, Verdict.keep, inRange, ofNumber, judged, check}
+use Rattle.expect.specs.declared.keyword.Keyword.{Keyword}
+use Rattle.expect.specs.declared.keyword.Keyword.the-variants as keyword
+use Rattle.expect.specs.Dues.{spelled, Fixed, Fixed.opening, Fixed.closing, Fixed.lineEnd, Fixed.sheetEnd, Fixed.word, fixedToken, Due, Due.the, Due.equal, Due.within, Verdict, Verdict.wrong, Verdict.fine, Verdict.keep, inRange, ofNumber, judged, check}
 use Rattle.layout.specs.Marks.{Mark, Mark.fixed, Mark.number, fixedBytes, Spells, Apart, Begins}
 
 in-range-parts : (lo hi z : ℤ) → inRange lo hi z ≡ true → (lo ≤ℤ z) × (z ≤ℤ hi)

@@ -13,7 +13,7 @@ use Rattle.board.specs.declared.refusal.Refusal.the-variants.{Sheet}
 use Rattle.token.specs.Tokens.{leadingSpaces, lineEndsIn, tokenAt, Cursor, skipSpaces, afterToken, nextToken}
 use Rattle.token.proofs.Shows.{spaces-split, skip-close}
 use Rattle.token.proofs.Places.{skip-line, skip-place, after-line, after-place}
-use Rattle.sheet.specs.Dues.{Fixed, Due, Due.the, Due.equal, Due.within, Verdict, Verdict.wrong, Verdict.fine, Verdict.keep, inRange, Passed, check, settled, step, andThen, pass}
+use Rattle.expect.specs.Dues.{Fixed, Due, Due.the, Due.equal, Due.within, Verdict, Verdict.wrong, Verdict.fine, Verdict.keep, inRange, Passed, check, settled, step, andThen, pass}
 use Rattle.layout.specs.Marks.{Mark, Mark.fixed, Mark.number, Begins, Layout}
 use Rattle.layout.specs.Faults.{dueMarks, Kept}
 use Rattle.layout.proofs.Seen.{Met, met, Taken, taken-fixed, taken-number, tokenFor, next-here, goes-here, fine-fixed, within-itself, in-range-from}

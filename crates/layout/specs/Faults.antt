@@ -12,7 +12,7 @@ use Rattle.board.specs.declared.refusal.Refusal.{Refusal}
 use Rattle.board.specs.declared.refusal.Refusal.the-variants.{Sheet}
 use Rattle.token.specs.Tokens.{tokenAt, leadingSpaces, lineEndsIn}
 use Rattle.sheet.specs.declared.terms.Terms.{Terms}
-use Rattle.sheet.specs.Dues.{Due, Due.the, Due.equal, Due.within, Verdict.wrong, check}
+use Rattle.expect.specs.Dues.{Due, Due.the, Due.equal, Due.within, Verdict.wrong, check}
 use Rattle.sheet.specs.Readings.{due, reading}
 use Rattle.layout.specs.Marks.{Mark, Mark.fixed, Mark.number, Layout}
 

@@ -7,9 +7,9 @@ use lib.ListN.{replicate}
 use Rattle.std.specs.declared.option.Option.the-variants.{Some}
 use Rattle.field.specs.Field.{FieldModel}
 use Rattle.token.specs.Tokens.{RunEnded, numberOf}
-use Rattle.sheet.specs.declared.keyword.Keyword.the-variants.{Sheet, Grid, Claim, At, End}
+use Rattle.expect.specs.declared.keyword.Keyword.the-variants.{Sheet, Grid, Claim, At, End}
 use Rattle.sheet.specs.declared.terms.Terms.{Terms}
-use Rattle.sheet.specs.Dues.{spelled, Fixed, Fixed.opening, Fixed.closing, Fixed.lineEnd, Fixed.sheetEnd, Fixed.word}
+use Rattle.expect.specs.Dues.{spelled, Fixed, Fixed.opening, Fixed.closing, Fixed.lineEnd, Fixed.sheetEnd, Fixed.word}
 
 -- a bracket, a line end, a word of the format or the sheet's end; or a number, by its value
 pub data Mark : Type 0 where

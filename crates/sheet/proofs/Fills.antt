@@ -17,9 +17,9 @@ use Rattle.board.specs.declared.refusal.Refusal.{Refusal}
 use Rattle.board.specs.declared.refusal.Refusal.the-variants.{TrayShort}
 use Rattle.token.specs.Tokens.{Cursor, cursorStart}
 use Rattle.sheet.specs.declared.terms.Terms.{Terms}
-use Rattle.sheet.specs.Dues.{pass}
+use Rattle.expect.specs.Dues.{pass}
 use Rattle.sheet.specs.Readings.{due, claimDue, lines, valueLine, ending, paired, concluded, parsed, elements, valued, reading, claimOf, trayOf, Filled, readAnswer, trayAfter}
-use Rattle.sheet.proofs.Passes.{on-first, stop-first}
+use Rattle.expect.proofs.Passes.{on-first, stop-first}
 
 -- the element at j is the next to become z
 pub clear-more : {K : Type 0} (z : K) (xs : List K) (j : ℕ) → j < length xs → set (filled j z xs) j z ≡ filled (j + 1) z xs

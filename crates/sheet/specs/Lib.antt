@@ -1,3 +1,1 @@
-pub mod Dues
 pub mod Readings
-pub mod Expectations

@@ -4,7 +4,7 @@ use mathlib.Core.Bool.{cond}
 use mathlib.Core.List.{List, [], _∷_, _++_, map}
 use Prim.Native.Nat.{ℕ, zero, suc}
 use lib.Dec.{eqb, ltb}
-use lib.IntN.{ℤ, pos, natAbs, _-ℤ_}
+use lib.IntN.{ℤ, pos, natAbs}
 use lib.ListN.{length, getD, drop}
 use Rattle.std.specs.declared.result.Result.{Result}
 use Rattle.std.specs.declared.result.Result.the-variants.{Ok, Err}
@@ -14,13 +14,9 @@ use Rattle.board.specs.declared.refusal.Fault.the-variants as fault
 use Rattle.board.specs.declared.refusal.Refusal.{Refusal}
 use Rattle.board.specs.declared.refusal.Refusal.the-variants.{TrayShort}
 use Rattle.token.specs.Tokens.{cursorStart}
-use Rattle.sheet.specs.declared.keyword.Keyword.the-variants.{Sheet, Grid, Claim, At, End}
+use Rattle.expect.specs.declared.keyword.Keyword.the-variants.{Sheet, Grid, Claim, At, End}
 use Rattle.sheet.specs.declared.terms.Terms.{Terms}
-use Rattle.sheet.specs.Dues.{Fixed.opening, Fixed.closing, Fixed.lineEnd, Fixed.sheetEnd, Fixed.word, Due, Due.the, Due.equal, Due.within, Passed, pass}
-
--- a part below n
-abbrev pub partBelow : ℕ → Due
-partBelow n = within (pos 0) (pos n -ℤ pos 1) fault.Part
+use Rattle.expect.specs.Dues.{Fixed.opening, Fixed.closing, Fixed.lineEnd, Fixed.sheetEnd, Fixed.word, Due, Due.the, Due.equal, Due.within, partBelow, Passed, pass}
 
 -- high parts are below this, at characteristic p and degree e: 0 alone where e is 1
 abbrev pub highLimit : ℕ → ℕ → ℕ

@@ -5,17 +5,17 @@ ghost use Prim.Native.Nat.{_<_};
 ghost use lib.IntN.{ℤ};
 ghost use Rattle.std.specs.Vec.{made};
 ghost use Rattle.token.specs.Readers.{cursorOf};
-ghost use Rattle.sheet.specs.Dues.{pass};
+ghost use Rattle.expect.specs.Dues.{pass};
 ghost use Rattle.sheet.specs.Readings.{highLimit, valueLine, claimDue, ending};
-ghost use Rattle.sheet.specs.Expectations.{passedOn, passedNumber, passedParts};
-use crate::due::Due;
-use crate::expect::number;
-use crate::expect::part;
-use crate::expect::pass;
-use crate::keyword::Keyword;
+ghost use Rattle.expect.specs.Expectations.{passedOn, passedNumber, passedParts};
 use crate::terms::Terms;
 use board::Fault;
 use board::Refusal;
+use expect::Due;
+use expect::Keyword;
+use expect::number;
+use expect::part;
+use expect::pass;
 use token::Reader;
 
 // High parts are below this, at characteristic p and degree e.

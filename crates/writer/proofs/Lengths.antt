@@ -10,9 +10,9 @@ use Rattle.std.specs.Written.{decimal, signed}
 use Rattle.std.proofs.shelf.Decimals.{length-decimal-le}
 use Rattle.std.proofs.shelf.Lists.{drop-more, drop-all}
 use Rattle.field.specs.Field.{FieldModel, LawfulField}
-use Rattle.sheet.specs.declared.keyword.Keyword.the-variants.{Sheet, Grid, Claim, At}
+use Rattle.expect.specs.declared.keyword.Keyword.the-variants.{Sheet, Grid, Claim, At}
 use Rattle.sheet.specs.declared.terms.Terms.{Terms}
-use Rattle.sheet.specs.Dues.{Fixed.opening, Fixed.closing, Fixed.lineEnd, Fixed.word}
+use Rattle.expect.specs.Dues.{Fixed.opening, Fixed.closing, Fixed.lineEnd, Fixed.word}
 use Rattle.layout.specs.Marks.{Mark, Mark.fixed, Mark.number, sheetMarks, claimMarks, valueMarks, endMarks, lineMarks, partsOf}
 use Rattle.writer.specs.Texts.{spacedAfter, spacedBytes, writtenOn, written, text}
 use Rattle.writer.specs.Laws.{TextFits}

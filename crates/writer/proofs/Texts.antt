@@ -19,9 +19,9 @@ use Rattle.std.proofs.shelf.Ways.{tells}
 use Rattle.field.specs.Field.{FieldModel, LawfulField}
 use Rattle.token.specs.Tokens.{RunEnded, eachByte, isDigits, valueAfter, digitsValue, signedBy, numberOf}
 use Rattle.token.proofs.Runs.{made-of-yes, number-plain}
-use Rattle.sheet.specs.declared.keyword.Keyword.the-variants.{Sheet, Grid, Claim, At}
+use Rattle.expect.specs.declared.keyword.Keyword.the-variants.{Sheet, Grid, Claim, At}
 use Rattle.sheet.specs.declared.terms.Terms.{Terms}
-use Rattle.sheet.specs.Dues.{Fixed, Fixed.opening, Fixed.closing, Fixed.lineEnd, Fixed.sheetEnd, Fixed.word}
+use Rattle.expect.specs.Dues.{Fixed, Fixed.opening, Fixed.closing, Fixed.lineEnd, Fixed.sheetEnd, Fixed.word}
 use Rattle.layout.specs.Marks.{Mark, Mark.fixed, Mark.number, sheetMarks, claimMarks, valueMarks, endMarks, lineMarks, headMarks, marks, partsOf, marksOf, Spells, Apart, Begins, Layout}
 use Rattle.layout.proofs.Sheets.{reads-sheets}
 use Rattle.writer.specs.Texts.{spacedAfter, spacedBefore, markBytes, spacedBytes, writtenOn, written, text}

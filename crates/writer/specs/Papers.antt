@@ -12,7 +12,7 @@ use Rattle.field.specs.Field.{FieldModel}
 use Rattle.board.specs.declared.refusal.Refusal.{Refusal}
 use Rattle.board.specs.declared.refusal.Refusal.the-variants.{PaperShort}
 use Rattle.sheet.specs.declared.terms.Terms.{Terms}
-use Rattle.sheet.specs.Dues.{Fixed.opening, Fixed.closing, Fixed.lineEnd, Fixed.word}
+use Rattle.expect.specs.Dues.{Fixed.opening, Fixed.closing, Fixed.lineEnd, Fixed.word}
 use Rattle.layout.specs.Marks as marks
 use Rattle.writer.specs.declared.mark.Mark.{Mark}
 use Rattle.writer.specs.declared.mark.Mark.the-variants.{Open, Close, LineEnd, Word, Natural, Signed}

@@ -6,7 +6,7 @@ use lib.IntN.{ℤ}
 use Rattle.std.specs.Written.{signed}
 use Rattle.field.specs.Field.{FieldModel}
 use Rattle.sheet.specs.declared.terms.Terms.{Terms}
-use Rattle.sheet.specs.Dues.{Fixed.opening, Fixed.closing, Fixed.lineEnd, Fixed.sheetEnd, Fixed.word}
+use Rattle.expect.specs.Dues.{Fixed.opening, Fixed.closing, Fixed.lineEnd, Fixed.sheetEnd, Fixed.word}
 use Rattle.layout.specs.Marks.{Mark, Mark.fixed, Mark.number, fixedBytes, marksOf}
 
 -- whether a space may follow: not inside a bracket, nor at the start of a line

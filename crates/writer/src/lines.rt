@@ -6,7 +6,7 @@ ghost use Rattle.writer.specs.Texts.{written};
 ghost use Rattle.writer.specs.Papers.{Lays};
 use crate::mark::Mark;
 use crate::put::put_marks;
-use sheet::Keyword;
+use expect::Keyword;
 
 // The first line: the characteristic, the degree, the rows and the columns.
 pub(crate) fn put_sheet_line(paper: &mut [u8], at: usize, p: u32, e: u32, h: u32, v: u32) -> usize

@@ -1,5 +1,5 @@
 // What is written of a sheet, mark by mark.
-use sheet::Keyword;
+use expect::Keyword;
 
 // A bracket, a line end, a word or a number.
 #[derive(Clone, Copy)]

@@ -8,7 +8,8 @@ use Rattle.std.proofs.shelf.Results.{err-from-errBy}
 use Rattle.std.proofs.shelf.Signed.{toZ-ofZ}
 use Rattle.token.specs.Readers.{cursorOf}
 use Rattle.sheet.specs.Readings.{front}
-use Rattle.sheet.proofs.Passes.{stop-first, stop-claim, at-form-end}
+use Rattle.expect.proofs.Passes.{stop-first}
+use Rattle.sheet.proofs.Passes.{stop-claim, at-form-end}
 use Rattle.sheet.proofs.lines.claim_lines.Needs as need
 
 pub returns-in-Break-pass : need.returns-in-Break-pass

@@ -1,7 +1,8 @@
 use mathlib.Core.Path.{refl, _∙_}
 use Rattle.std.proofs.shelf.Results.{err-from-errBy}
 use Rattle.sheet.specs.Readings.{lineFront}
-use Rattle.sheet.proofs.Passes.{stop-first, stop-low, stop-high, at-back, high-fits, high-only}
+use Rattle.expect.proofs.Passes.{stop-first}
+use Rattle.sheet.proofs.Passes.{stop-low, stop-high, at-back, high-fits, high-only}
 use Rattle.sheet.proofs.lines.value_line.Needs as need
 
 pub returns-in-Break-pass : need.returns-in-Break-pass

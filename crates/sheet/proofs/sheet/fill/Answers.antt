@@ -9,7 +9,7 @@ use Rattle.std.specs.declared.result.Result.the-variants.{Ok, Err}
 use Rattle.std.proofs.shelf.Results.{err-from-errBy}
 use Rattle.std.proofs.shelf.Signed.{toZ-ofZ}
 use Rattle.token.specs.Readers.{cursorOf}
-use Rattle.sheet.specs.Dues.{pass}
+use Rattle.expect.specs.Dues.{pass}
 use Rattle.sheet.specs.Readings.{claimDue, valueLine, elements, claimOf}
 use Rattle.sheet.proofs.Fills.{flat, none-read, one-read, line-stops, ending-stops, all-read, tray-is, claim-stops, fills}
 use Rattle.sheet.proofs.sheet.fill.Needs as need

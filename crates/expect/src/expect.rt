@@ -6,9 +6,8 @@ ghost use lib.IntN.{ℤ};
 ghost use lib.Signed.{_≤ℤ_};
 ghost use Rattle.std.specs.Vec.{made};
 ghost use Rattle.token.specs.Readers.{tokenOf, cursorOf};
-ghost use Rattle.sheet.specs.Dues.{Due.within as Within, spelled, check, step, pass};
-ghost use Rattle.sheet.specs.Readings.{partBelow};
-ghost use Rattle.sheet.specs.Expectations.{dueOf, verdictOf, passedOn, passedNumber, passedPart};
+ghost use Rattle.expect.specs.Dues.{Due.within as Within, spelled, partBelow, check, step, pass};
+ghost use Rattle.expect.specs.Expectations.{dueOf, verdictOf, passedOn, passedNumber, passedPart};
 use crate::due::Due;
 use crate::keyword::Keyword;
 use board::Fault;
@@ -96,7 +95,7 @@ fn expect(reader: &mut Reader<'_>, due: Due) -> Result<(), Refusal>
 }
 
 // Reads the tokens that are due, in order.
-pub(crate) fn pass(reader: &mut Reader<'_>, dues: &[Due]) -> Result<(), Refusal>
+pub fn pass(reader: &mut Reader<'_>, dues: &[Due]) -> Result<(), Refusal>
     ensures { λ r. ⌜ ((kept : List ℤ) → passedOn kept r (cursorOf (now (reader .exit))) ≡ pass (map dueOf (now (dues .entry))) kept (cursorOf (now (reader .entry)))) ⌝ }
 {
     for due in dues {
@@ -106,7 +105,7 @@ pub(crate) fn pass(reader: &mut Reader<'_>, dues: &[Due]) -> Result<(), Refusal>
 }
 
 // Reads a number from `least` to `greatest`.
-pub(crate) fn number(
+pub fn number(
     reader: &mut Reader<'_>,
     least: i64,
     greatest: i64,
@@ -135,7 +134,7 @@ pub(crate) fn number(
 }
 
 // Reads a part below `limit`.
-pub(crate) fn part(reader: &mut Reader<'_>, limit: u32) -> Result<u32, Refusal>
+pub fn part(reader: &mut Reader<'_>, limit: u32) -> Result<u32, Refusal>
     ensures read { λ r. ⌜ ((kept : List ℤ) → passedPart kept r (cursorOf (now (reader .exit))) ≡ step (partBelow limit) kept (cursorOf (now (reader .entry)))) ⌝ }
     ensures below { λ r. ⌜ made r (λ n. n < limit) ⌝ }
 {

@@ -5,8 +5,8 @@ use Rattle.std.proofs.shelf.Results.{err-from-errBy}
 use Rattle.std.proofs.shelf.Signed.{ints}
 use Rattle.board.specs.declared.refusal.Fault.the-variants as fault
 use Rattle.token.specs.Readers.{cursorOf}
-use Rattle.sheet.specs.Dues.{step, Due.within}
-use Rattle.sheet.proofs.expect.part.Needs as need
+use Rattle.expect.specs.Dues.{step, Due.within}
+use Rattle.expect.proofs.expect.part.Needs as need
 
 pub returns-in-Break-n : need.returns-in-Break-n
 returns-in-Break-n c =

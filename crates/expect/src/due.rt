@@ -3,7 +3,7 @@ use crate::keyword::Keyword;
 use board::Fault;
 
 #[derive(Clone, Copy)]
-pub(crate) enum Due {
+pub enum Due {
     Open,
     Close,
     LineEnd,

@@ -3,9 +3,9 @@ use mathlib.Core.List.{List, map}
 use lib.IntN.{ℤ}
 use lib.ListN.{drop}
 use Rattle.token.specs.Readers.{cursorOf}
-use Rattle.sheet.specs.Dues.{pass}
-use Rattle.sheet.specs.Expectations.{dueOf}
-use Rattle.sheet.proofs.expect.pass.Given as given
+use Rattle.expect.specs.Dues.{pass}
+use Rattle.expect.specs.Expectations.{dueOf}
+use Rattle.expect.proofs.expect.pass.Given as given
 
 -- what is still due, from here, comes to what was due at the start
 abbrev pub Inv-loop-due : given.InvT-loop-due

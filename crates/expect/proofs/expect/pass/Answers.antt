@@ -1,8 +1,8 @@
 use mathlib.Core.Path.{_∙_}
 use Rattle.std.proofs.shelf.Results.{err-from-errBy}
-use Rattle.sheet.specs.Expectations.{dueOf}
-use Rattle.sheet.proofs.Passes.{pass-on, pass-stop, pass-done}
-use Rattle.sheet.proofs.expect.pass.Needs as need
+use Rattle.expect.specs.Expectations.{dueOf}
+use Rattle.expect.proofs.Passes.{pass-on, pass-stop, pass-done}
+use Rattle.expect.proofs.expect.pass.Needs as need
 
 pub returns-in-Break-expect : need.returns-in-Break-expect
 returns-in-Break-expect c kept =

@@ -3,10 +3,10 @@ use mathlib.Core.Bool.{cond}
 use Rattle.std.proofs.shelf.Equals.{matches-decides}
 use Rattle.board.specs.declared.refusal.Fault.the-variants as fault
 use Rattle.token.specs.Readers.{tokenOf}
-use Rattle.sheet.specs.Dues.{check, Verdict.fine, Verdict.wrong}
-use Rattle.sheet.specs.Expectations.{dueOf}
-use Rattle.sheet.proofs.Passes.{differ}
-use Rattle.sheet.proofs.due.Due.check.Needs as need
+use Rattle.expect.specs.Dues.{check, Verdict.fine, Verdict.wrong}
+use Rattle.expect.specs.Expectations.{dueOf}
+use Rattle.expect.proofs.Passes.{differ}
+use Rattle.expect.proofs.due.Due.check.Needs as need
 
 pub returns-else-eq : need.returns-else-eq
 returns-else-eq c =

@@ -3,7 +3,7 @@ use mathlib.Core.Bool.{Bool, cond, _&&_}
 use mathlib.Core.List.{List, [], _∷_, _++_}
 use Prim.Native.Nat.{ℕ}
 use lib.Chars.{codes}
-use lib.IntN.{ℤ, pos}
+use lib.IntN.{ℤ, pos, _-ℤ_}
 use lib.Signed.{leZ}
 use Rattle.std.specs.declared.result.Result.{Result}
 use Rattle.std.specs.declared.result.Result.the-variants.{Ok, Err}
@@ -13,8 +13,8 @@ use Rattle.board.specs.declared.refusal.Refusal.{Refusal}
 use Rattle.board.specs.declared.refusal.Refusal.the-variants as refusal
 use Rattle.token.specs.Tokens as tokens
 use Rattle.token.specs.Tokens.{Token, alike, isMalformed, Cursor, skipSpaces, nextToken, afterToken}
-use Rattle.sheet.specs.declared.keyword.Keyword.{Keyword}
-use Rattle.sheet.specs.declared.keyword.Keyword.the-variants as keyword
+use Rattle.expect.specs.declared.keyword.Keyword.{Keyword}
+use Rattle.expect.specs.declared.keyword.Keyword.the-variants as keyword
 
 -- the bytes of a word of the format
 abbrev pub spelled : Keyword → List ℕ
@@ -34,6 +34,10 @@ pub data Due : Type 0 where
   the : Fixed → Due  -- just this
   equal : ℕ → Fault → Due  -- the number n; another has this fault
   within : ℤ → ℤ → Fault → Due  -- a number from lo to hi, which is kept; another has this fault
+
+-- a part below n
+abbrev pub partBelow : ℕ → Due
+partBelow n = within (pos 0) (pos n -ℤ pos 1) fault.Part
 
 -- the token of what is written in one way
 abbrev pub fixedToken : Fixed → Token

@@ -7,10 +7,10 @@ use Rattle.std.specs.declared.result.Result.the-variants.{Ok, Err}
 use Rattle.board.specs.declared.refusal.Fault.{Fault}
 use Rattle.board.specs.declared.refusal.Refusal.{Refusal}
 use Rattle.token.specs.Tokens.{Cursor}
-use Rattle.sheet.specs.declared.due.Due.{Due}
-use Rattle.sheet.specs.declared.due.Due.the-variants.{Open, Close, LineEnd, Word, End, Number}
-use Rattle.sheet.specs.Dues as dues
-use Rattle.sheet.specs.Dues.{Verdict, Verdict.wrong, Verdict.fine, Fixed.opening, Fixed.closing, Fixed.lineEnd, Fixed.sheetEnd, Fixed.word, Passed}
+use Rattle.expect.specs.declared.due.Due.{Due}
+use Rattle.expect.specs.declared.due.Due.the-variants.{Open, Close, LineEnd, Word, End, Number}
+use Rattle.expect.specs.Dues as dues
+use Rattle.expect.specs.Dues.{Verdict, Verdict.wrong, Verdict.fine, Fixed.opening, Fixed.closing, Fixed.lineEnd, Fixed.sheetEnd, Fixed.word, Passed}
 
 -- what the code's expectation stands for
 abbrev pub dueOf : Due → dues.Due
