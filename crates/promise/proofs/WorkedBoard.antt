@@ -12,7 +12,7 @@ use Rattle.polynomial.specs.Interpolation.{node}
 use Rattle.polynomial.proofs.Nodes.{nodes-differ}
 use Rattle.question.specs.SquareSums.{squaresQuestion}
 use Rattle.question.proofs.SquaresLaw.{squares-lawful}
-use Rattle.sheet.specs.Dues.{pass}
+use Rattle.expect.specs.Dues.{pass}
 use Rattle.verifier.specs.Notes.{verifierOpened, verifierAfter}
 use Rattle.promise.specs.Runs.{Request, opening, noting, sealing, asking}
 use Rattle.promise.specs.Ends.{VerifierOpening, Judging}
