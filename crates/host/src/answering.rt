@@ -40,6 +40,11 @@ pub(crate) fn answer_counts<F: Field, Q: Question<F>>(
     }
     let claim = question.tally(grid, counts);
     fill_values(question, grid, degree, counts, tray);
-    let length = write_sheet(paper, &terms_of(question, grid), claim, &tray[0..degree + 1])?;
+    let length = write_sheet(
+        paper,
+        &terms_of(question, grid),
+        claim,
+        &tray[0..degree + 1],
+    )?;
     Ok((claim, length))
 }

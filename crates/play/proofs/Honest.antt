@@ -98,7 +98,7 @@ module _ {K : Type 0} (F : FieldModel K) where
         let rest = columns F h v fs (node F (q .degree h)) ++ drop (suc (q .degree h) + v) tray in
         let values : given .tray ≡ honest F h v q fs ++ rest = answer .values in
         let room : suc (q .degree h) ≤ length (given .tray) =
-            omega (arith, ap length values, length-append (honest F h v q fs) rest, length-listed 0 (suc (q .degree h)) (λ j. q .rule h v (node F j) (columns F h v fs (node F j)))) in
+        omega (arith, ap length values, length-append (honest F h v q fs) rest, length-listed 0 (suc (q .degree h)) (λ j. q .rule h v (node F j) (columns F h v fs (node F j)))) in
         ap (λ a. hostTrial F h v r ms q a counts sums tray paper .answer) host-granted
         ∙ ap (λ a. boxTrial F h v r ms q a counts sums tray paper .answer) verifier-granted
         ∙ ap (λ a. judgedSheet F (toldBox F h v r ms q sums) q a (given .tray) (given .paper) .answer) (answer .answer)

@@ -10,7 +10,11 @@ use board::Move;
 use field::Field;
 
 // Tells a host moves, refused ones too.
-pub(crate) fn tell_host<F: Field>(host: &mut host::Listening<F>, bank: &mut Bank<'_, i32>, moves: &[Move])
+pub(crate) fn tell_host<F: Field>(
+    host: &mut host::Listening<F>,
+    bank: &mut Bank<'_, i32>,
+    moves: &[Move],
+)
     ensures state { λ _. ⌜ hostState (now (host .exit)) (now (now (bank .exit) .cells)) ≡ hostAfter (F·Field .model .limit) (hostState (now (host .entry)) (now (now (bank .entry) .cells))) (now (moves .entry)) ⌝ }
     ensures lender { λ _. ⌜ name (now (bank .exit) .cells) ≡ name (now (bank .entry) .cells) ⌝ }
 {
@@ -20,7 +24,11 @@ pub(crate) fn tell_host<F: Field>(host: &mut host::Listening<F>, bank: &mut Bank
 }
 
 // Tells a box moves, refused ones too.
-pub(crate) fn tell_verifier<F: Field>(verifier: &mut verifier::Listening<F>, bank: &mut Bank<'_, F>, moves: &[Move])
+pub(crate) fn tell_verifier<F: Field>(
+    verifier: &mut verifier::Listening<F>,
+    bank: &mut Bank<'_, F>,
+    moves: &[Move],
+)
     ensures state { λ _. ⌜ verifierState (now (verifier .exit)) (now (now (bank .exit) .cells)) ≡ verifierAfter (F·Field .model) (verifierState (now (verifier .entry)) (now (now (bank .entry) .cells))) (now (moves .entry)) ⌝ }
     ensures lender { λ _. ⌜ name (now (bank .exit) .cells) ≡ name (now (bank .entry) .cells) ⌝ }
 {

@@ -60,5 +60,13 @@ pub fn play_trial<F: Field, Q: Question<F>>(
     let mut verifier = verifier::Listening::open(rows, columns, point, sums)?;
     tell_host(&mut host, counts, moves);
     tell_verifier(&mut verifier, sums, moves);
-    exchange(&host.seal(), counts, &verifier.seal(), sums, question, tray, paper)
+    exchange(
+        &host.seal(),
+        counts,
+        &verifier.seal(),
+        sums,
+        question,
+        tray,
+        paper,
+    )
 }

@@ -1,4 +1,5 @@
 // The fields that there are.
+use crate::show;
 use extension::Extension;
 use extension::ExtensionField;
 use field::BaseField;
@@ -21,9 +22,9 @@ fn print_pair<B: BaseField>(rt: &impl Print, name: &str) -> io::Result<()> {
 }
 
 fn print_element<F: Field>(rt: &impl Print, text: &str, x: F) -> io::Result<()> {
-    let low = x.low();
-    let high = x.high();
-    println!(rt, "  {text}: parts {low} and {high}")
+    print!(rt, "  {text}: parts")?;
+    show::parts(rt, x)?;
+    println!(rt, "")
 }
 
 // The element 2 + 3 t of the extension of 65,537, its square, and its inverse.

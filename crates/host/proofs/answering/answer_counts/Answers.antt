@@ -93,17 +93,17 @@ returns-in-Break-length g c =
     let claim = q .tally h v fs in
     let enough : 9216 ≤ length paper = c .if-paper-lt9216 .left in
     let filled : c .fill-values .last .tray ≡ trayFilled F h v q fs tray =
-        c .fill-values .ensures ∙ ap₂ (λ xs n. honest F h v q xs ++ (columns F h v xs (node F n) ++ drop (suc n + v) tray)) counts degree in
+    c .fill-values .ensures ∙ ap₂ (λ xs n. honest F h v q xs ++ (columns F h v xs (node F n) ++ drop (suc n + v) tray)) counts degree in
     let lines : c .in-Continue-degree .field-0 + 1 - 0 ≡ suc (q .degree h) = omega (arith, degree) in
     let values = ap₂ take lines filled ∙ take-honest F h v cells q tray paper fs in
     let few : length (honest F h v q fs) ≤ 253 = omega (arith, length-listed 0 (suc (q .degree h)) (λ j. q .rule h v (node F j) (columns F h v fs (node F j))), s .degree-most) in
     let fits : SFits w64 (c .tally-claim .result) = search needs in
     let claim-is : toZ w64 (ofZ w64 (c .tally-claim .result)) ≡ claim = toZ-ofZ w64 (c .tally-claim .result) fits ∙ c .tally-claim .ensures ∙ ap (q .tally h v) counts in
     let written : c .write-sheet .result ≡ Ok (length (text F (termsOf q h v) claim (honest F h v q fs))) =
-        c .write-sheet .ensures .answer
-        ∙ ap₂ (λ t z. writeAnswer F t z (take (c .in-Continue-degree .field-0 + 1 - 0) (c .fill-values .last .tray)) paper) (c .terms-of .ensures) claim-is
-        ∙ ap (λ xs. writeAnswer F (termsOf q h v) claim xs paper) values
-        ∙ write-granted F h v cells q tray paper claim (honest F h v q fs) few enough in
+    c .write-sheet .ensures .answer
+    ∙ ap₂ (λ t z. writeAnswer F t z (take (c .in-Continue-degree .field-0 + 1 - 0) (c .fill-values .last .tray)) paper) (c .terms-of .ensures) claim-is
+    ∙ ap (λ xs. writeAnswer F (termsOf q h v) claim xs paper) values
+    ∙ write-granted F h v cells q tray paper claim (honest F h v q fs) few enough in
     let was = c .in-Break-length .was tt in
     let z : _≡_ {A = ℕ} 0 1 = cc in
     absurd (omega arith)
@@ -130,17 +130,17 @@ returns g c =
     let claim = q .tally h v fs in
     let enough : 9216 ≤ length paper = c .if-paper-lt9216 .left in
     let filled : c .fill-values .last .tray ≡ trayFilled F h v q fs tray =
-        c .fill-values .ensures ∙ ap₂ (λ xs n. honest F h v q xs ++ (columns F h v xs (node F n) ++ drop (suc n + v) tray)) counts degree in
+    c .fill-values .ensures ∙ ap₂ (λ xs n. honest F h v q xs ++ (columns F h v xs (node F n) ++ drop (suc n + v) tray)) counts degree in
     let lines : c .in-Continue-degree .field-0 + 1 - 0 ≡ suc (q .degree h) = omega (arith, degree) in
     let values = ap₂ take lines filled ∙ take-honest F h v cells q tray paper fs in
     let few : length (honest F h v q fs) ≤ 253 = omega (arith, length-listed 0 (suc (q .degree h)) (λ j. q .rule h v (node F j) (columns F h v fs (node F j))), s .degree-most) in
     let fits : SFits w64 (c .tally-claim .result) = search needs in
     let claim-is : toZ w64 (ofZ w64 (c .tally-claim .result)) ≡ claim = toZ-ofZ w64 (c .tally-claim .result) fits ∙ c .tally-claim .ensures ∙ ap (q .tally h v) counts in
     let written : c .write-sheet .result ≡ Ok (length (text F (termsOf q h v) claim (honest F h v q fs))) =
-        c .write-sheet .ensures .answer
-        ∙ ap₂ (λ t z. writeAnswer F t z (take (c .in-Continue-degree .field-0 + 1 - 0) (c .fill-values .last .tray)) paper) (c .terms-of .ensures) claim-is
-        ∙ ap (λ xs. writeAnswer F (termsOf q h v) claim xs paper) values
-        ∙ write-granted F h v cells q tray paper claim (honest F h v q fs) few enough in
+    c .write-sheet .ensures .answer
+    ∙ ap₂ (λ t z. writeAnswer F t z (take (c .in-Continue-degree .field-0 + 1 - 0) (c .fill-values .last .tray)) paper) (c .terms-of .ensures) claim-is
+    ∙ ap (λ xs. writeAnswer F (termsOf q h v) claim xs paper) values
+    ∙ write-granted F h v cells q tray paper claim (honest F h v q fs) few enough in
     let was = c .in-Continue-length .was tt in
     let length-is : c .in-Continue-length .length ≡ length (text F (termsOf q h v) claim (honest F h v q fs)) = cc in
     let e = granted F h v cells q tray paper long light suit room enough in

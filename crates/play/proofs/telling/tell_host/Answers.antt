@@ -17,7 +17,7 @@ loop-m-again g c =
     let none : Move = record { cell = 0; amount = pos 0 } in
     let before = hostState (c .loop-m .host) (c .loop-m .bank .cells .now) in
     let step : hostState (c .note .last .self) (c .note .last .bank .cells .now) ≡ hostNoted W before (getD ms i none) =
-        ap₂ (λ s bank. record { standing = s; bank = bank }) (c .note .ensures .standing) (c .note .ensures .bank) in
+    ap₂ (λ s bank. record { standing = s; bank = bank }) (c .note .ensures .standing) (c .note .ensures .bank) in
     let next = ap (λ n. drop n ms) (add-one i) in
     let opened = ap (hostAfter W before) (drop-cons ms i none (c .loop-m-test .taken)) in
     (ap₂ (hostAfter W) step next ∙ sym opened ∙ c .loop-m .inv .0, c .note .ensures .lender ∙ c .loop-m .inv .1)

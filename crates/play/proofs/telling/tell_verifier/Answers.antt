@@ -17,7 +17,7 @@ loop-m-again g c =
     let none : Move = record { cell = 0; amount = pos 0 } in
     let before = verifierState (c .loop-m .verifier) (c .loop-m .bank .cells .now) in
     let step : verifierState (c .note .last .self) (c .note .last .bank .cells .now) ≡ verifierNoted F before (getD ms i none) =
-        (λ i. record { standing = c .note .ensures .standing i; point = c .note .ensures .point i; bank = c .note .ensures .bank i }) in
+    (λ i. record { standing = c .note .ensures .standing i; point = c .note .ensures .point i; bank = c .note .ensures .bank i }) in
     let next = ap (λ n. drop n ms) (add-one i) in
     let opened = ap (verifierAfter F before) (drop-cons ms i none (c .loop-m-test .taken)) in
     (ap₂ (verifierAfter F) step next ∙ sym opened ∙ c .loop-m .inv .0, c .note .ensures .lender ∙ c .loop-m .inv .1)

@@ -90,19 +90,19 @@ returns g c =
     let host-granted : hostOpenAnswer h v counts ≡ Ok tt = sym (c .in-Continue-host .ensures tt .answer) in
     let box-granted : verifierOpenAnswer F h v sums ≡ Ok tt = sym (c .in-Continue-verifier .ensures tt .answer) in
     let host-opened : hostState (c .in-Continue-host .host) (c .open .last .bank .cells .now) ≡ hostOpened h v counts =
-        ap₂ (λ s bank. record { standing = s; bank = bank }) (c .in-Continue-host .ensures tt .opened) (c .in-Continue-host .ensures tt .bank) in
+    ap₂ (λ s bank. record { standing = s; bank = bank }) (c .in-Continue-host .ensures tt .opened) (c .in-Continue-host .ensures tt .bank) in
     let box-opened : verifierState (c .in-Continue-verifier .verifier) (c .open-2 .last .bank .cells .now) ≡ verifierOpened F h v point sums =
-        (λ i. record { standing = c .in-Continue-verifier .ensures tt .opened .0 i; point = c .in-Continue-verifier .ensures tt .opened .1 i; bank = c .in-Continue-verifier .ensures tt .bank i }) in
+    (λ i. record { standing = c .in-Continue-verifier .ensures tt .opened .0 i; point = c .in-Continue-verifier .ensures tt .opened .1 i; bank = c .in-Continue-verifier .ensures tt .bank i }) in
     let host : sealedHost (c .seal .result) (c .tell-host .last .bank .cells .now) ≡ toldHost F h v point ms q counts =
-        ap (λ b. record { standing = standing b; bank = c .tell-host .last .bank .cells .now }) (c .seal .ensures)
-        ∙ c .tell-host .ensures .state ∙ ap (λ s. hostAfter (F .limit) s ms) host-opened in
+    ap (λ b. record { standing = standing b; bank = c .tell-host .last .bank .cells .now }) (c .seal .ensures)
+    ∙ c .tell-host .ensures .state ∙ ap (λ s. hostAfter (F .limit) s ms) host-opened in
     let box : sealedVerifier (c .seal-2 .result) (c .tell-verifier .last .bank .cells .now) ≡ toldBox F h v point ms q sums =
-        ap₂ (λ b r. record { standing = standing b; point = r; bank = c .tell-verifier .last .bank .cells .now }) (c .seal-2 .ensures .book) (c .seal-2 .ensures .point)
-        ∙ c .tell-verifier .ensures .state ∙ ap (λ s. verifierAfter F s ms) box-opened in
+    ap₂ (λ b r. record { standing = standing b; point = r; bank = c .tell-verifier .last .bank .cells .now }) (c .seal-2 .ensures .book) (c .seal-2 .ensures .point)
+    ∙ c .tell-verifier .ensures .state ∙ ap (λ s. verifierAfter F s ms) box-opened in
     let given = ap₂ (λ x y. exchanged F x y q tray paper) host box in
     let e =
-        ap (λ a. hostTrial F h v point ms q a counts sums tray paper) host-granted
-        ∙ ap (λ a. boxTrial F h v point ms q a counts sums tray paper) box-granted in
+    ap (λ a. hostTrial F h v point ms q a counts sums tray paper) host-granted
+    ∙ ap (λ a. boxTrial F h v point ms q a counts sums tray paper) box-granted in
     let answer = c .exchange .ensures .answer ∙ ap (λ x. x .answer) given ∙ sym (ap (λ t. t .answer) e) in
     record {
       promise = promised;
