@@ -16,6 +16,7 @@ use season::RangeQuestion;
 use season::Squares;
 use season::SquaresQuestion;
 use std::io;
+use std::str::from_utf8;
 
 // What a question states: its tag, whether it fits, its degree and its claims; and its rule on the box's bank, at the secret point.
 fn describe<F: Field, Q: Question<F>>(
@@ -39,8 +40,9 @@ fn describe<F: Field, Q: Question<F>>(
     match question.fit(grid) {
         Fit::Fits => {
             if columns.len() == grid.columns() as usize {
-                print!(rt, "    fits; the rule at the secret point is")?;
-                show::elements(rt, &[question.rule(grid, point, columns)])?;
+                print!(rt, "    fits; the rule at the secret point has parts")?;
+                show::parts(rt, question.rule(grid, point, columns))?;
+                println!(rt, "")?;
             }
             Ok(())
         }
@@ -49,15 +51,15 @@ fn describe<F: Field, Q: Question<F>>(
 }
 
 // Asks the host, and has the box judge its sheet.
-fn ask<F: Field, Q: Question<F>>(
+fn ask<Q: Question<Mod65537>>(
     rt: &impl Print,
-    host: &host::Sealed<F>,
+    host: &host::Sealed<Mod65537>,
     counts: &Bank<'_, i32>,
-    verifier: &verifier::Sealed<F>,
-    sums: &Bank<'_, F>,
+    verifier: &verifier::Sealed<Mod65537>,
+    sums: &Bank<'_, Mod65537>,
     question: &Q,
 ) -> io::Result<()> {
-    let mut tray = [F::zero(); 64];
+    let mut tray = [Mod65537Field::zero(); 11];
     let mut paper = [0u8; 9216];
     match host.answer(counts, question, &mut tray, &mut paper) {
         Ok((claim, length)) => {
@@ -91,7 +93,7 @@ fn print_sheet(
     if length > paper.len() {
         return Ok(());
     }
-    match str::from_utf8(&paper[0..length]) {
+    match from_utf8(&paper[0..length]) {
         Ok(text) => print!(rt, "{text}"),
         Err(_) => Ok(()),
     }

@@ -35,7 +35,12 @@ const MOVES: [Move; 5] = [
 ];
 
 // A trial for the squares, from the opening of both ends to the judged sheet, and how many points could let a wrong claim by.
-fn print_trial<F: Field>(rt: &impl Print, point: F) -> io::Result<()> {
+fn print_trial<F: Field>(
+    rt: &impl Print,
+    point: F,
+    sums: &mut [F],
+    tray: &mut [F],
+) -> io::Result<()> {
     let p = u64::from(F::characteristic());
     let points = if F::degree() == 1 {
         p
@@ -43,11 +48,9 @@ fn print_trial<F: Field>(rt: &impl Print, point: F) -> io::Result<()> {
         p.saturating_mul(p)
     };
     let mut counts = [0i32; 16];
-    let mut sums = [F::zero(); 8];
-    let mut tray = [F::zero(); 11];
     let mut paper = [0u8; 9216];
     let mut counts = Bank::new(&mut counts);
-    let mut sums = Bank::new(&mut sums);
+    let mut sums = Bank::new(sums);
     print!(rt, "  at parts")?;
     show::parts(rt, point)?;
     print!(rt, ", at most 2 of {points} points let a wrong claim by: ")?;
@@ -61,7 +64,7 @@ fn print_trial<F: Field>(rt: &impl Print, point: F) -> io::Result<()> {
             &Squares,
             &mut counts,
             &mut sums,
-            &mut tray,
+            tray,
             &mut paper,
         ),
     )
@@ -69,11 +72,19 @@ fn print_trial<F: Field>(rt: &impl Print, point: F) -> io::Result<()> {
 
 pub fn print_all(rt: &impl Print) -> io::Result<()> {
     println!(rt, "Whole trials, for the squares of the counts")?;
-    print_trial(rt, Mod65537Field::image(5))?;
-    print_trial(rt, Mersenne31Field::image(5))?;
-    print_trial(rt, <Extension<Mod65537> as Field>::of_parts(0, 1))?;
+    let zero = Mod65537Field::zero();
+    print_trial(rt, Mod65537Field::image(5), &mut [zero; 8], &mut [zero; 11])?;
+    let zero = Mersenne31Field::zero();
     print_trial(
         rt,
-        <Extension<Mersenne31> as Field>::of_parts(5, 2147483646),
-    )
+        Mersenne31Field::image(5),
+        &mut [zero; 8],
+        &mut [zero; 11],
+    )?;
+    let zero = <Extension<Mod65537> as Field>::zero();
+    let t = <Extension<Mod65537> as Field>::of_parts(0, 1);
+    print_trial(rt, t, &mut [zero; 8], &mut [zero; 11])?;
+    let zero = <Extension<Mersenne31> as Field>::zero();
+    let point = <Extension<Mersenne31> as Field>::of_parts(5, 2147483646);
+    print_trial(rt, point, &mut [zero; 8], &mut [zero; 11])
 }
