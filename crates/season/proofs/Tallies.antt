@@ -86,11 +86,17 @@ squares-small fs i h =
     let k : absSum (take i fs) ≤ 46340 = omega (arith, abs-take i fs) in
     omega (arith, ap natAbs (squares-pos (take i fs)), squares-bound (take i fs), mul-le-mul {n₁ = absSum (take i fs)} {m₁ = absSum (take i fs)} {n₂ = 46340} {m₂ = 46340} k k)
 
--- a count that is widened and then squared
-pub wide-square : (x f : ℤ) → x ≡ toZ w32 (ofZ w32 f) → natAbs f ≤ 46340 → toZ w64 (ofZ w64 x) *ℤ toZ w64 (ofZ w64 x) ≡ f *ℤ f
+-- a number of 32 bits that is widened and then squared
+abs-32 : (f : ℤ) → SFits w32 f → natAbs f ≤ 2147483648
+abs-32 (pos n) h = omega (arith, h .sfits)
+abs-32 (negsuc n) h = omega (arith, h .sfits)
+
+pub wide-square : (x f : ℤ) → x ≡ toZ w32 (ofZ w32 f) → SFits w32 f → toZ w64 (ofZ w64 (toZ w64 (ofZ w64 x) *ℤ toZ w64 (ofZ w64 x))) ≡ f *ℤ f
 wide-square x f e h =
-    let q : toZ w64 (ofZ w64 x) ≡ f = ap (λ z. toZ w64 (ofZ w64 z)) (e ∙ toZ-ofZ w32 f (fits-32 f h)) ∙ toZ-ofZ w64 f (fits-64 f (omega arith)) in
-    ap (λ z. z *ℤ z) q
+    let b = abs-32 f h in
+    let q : toZ w64 (ofZ w64 x) ≡ f = ap (λ z. toZ w64 (ofZ w64 z)) (e ∙ toZ-ofZ w32 f h) ∙ toZ-ofZ w64 f (fits-64 f (omega arith)) in
+    let m : natAbs (f *ℤ f) ≤ 4611686018427387904 = omega (arith, ap natAbs (square f), mul-le-mul {n₁ = natAbs f} {m₁ = natAbs f} {n₂ = 2147483648} {m₂ = 2147483648} b b) in
+    ap (λ z. toZ w64 (ofZ w64 (z *ℤ z))) q ∙ toZ-ofZ w64 (f *ℤ f) (fits-64 (f *ℤ f) m)
 
 -- ---- counts in a row
 pub counts-abs : (fs : List ℤ) → natAbs (countsSum fs) ≤ absSum fs

@@ -1,7 +1,7 @@
 // The squares of all counts, added.
 ghost use mathlib.Core.Path.{_≡_};
 ghost use Prim.Native.Nat.{_≤_, _*_};
-ghost use lib.IntN.{pos};
+ghost use lib.IntN.{pos, _*ℤ_};
 ghost use Rattle.board.specs.Ledger.{absSum};
 ghost use Rattle.question.specs.SquareSums.{squaresTally, squaresRule, squaresQuestion};
 use crate::claims::fit_if;
@@ -15,6 +15,14 @@ use question::Tag;
 #[derive(Clone, Copy)]
 pub struct Squares;
 
+// The square of a count.
+fn square(count: i32) -> i64
+    ensures { λ r. ⌜ r ≡ count *ℤ count ⌝ }
+{
+    let wide = i64::from(count);
+    wide * wide
+}
+
 // The squares of the counts, added.
 fn square_count(counts: &[i32]) -> i64
     requires { ⌜ absSum (now counts) ≤ 46340 ⌝ }
@@ -22,8 +30,7 @@ fn square_count(counts: &[i32]) -> i64
 {
     let mut all = 0i64;
     for count in counts {
-        let wide = i64::from(*count);
-        all += wide * wide;
+        all += square(*count);
     }
     all
 }
