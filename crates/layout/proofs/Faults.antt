@@ -1,9 +1,8 @@
 -- A refusal tells the first fault of a sheet, and the first fault is told. Assumes nothing.
-use mathlib.Core.Path.{_≡_, refl, sym, ap, subst, _∙_}
+use mathlib.Core.Path.{_≡_, sym, ap, subst, _∙_}
 use mathlib.Core.List.{List, [], _∷_, _++_, append-assoc}
-use Prim.Native.Nat.{ℕ, suc, _+_, _≤_}
+use Prim.Native.Nat.{ℕ, suc, _+_}
 use native.Mathlib.Omega.{arith}
-use lib.IntN.{ℤ}
 use lib.ListN.{length, take, drop, replicate, length-append, length-drop, length-replicate, take-append-drop}
 use Rattle.std.specs.declared.result.Result.the-variants.{Ok, Err}
 use Rattle.std.proofs.shelf.Lists.{take-at, drop-at}
@@ -11,11 +10,11 @@ use Rattle.board.specs.declared.refusal.Fault.{Fault}
 use Rattle.board.specs.declared.refusal.Refusal.{Refusal}
 use Rattle.board.specs.declared.refusal.Refusal.the-variants.{Sheet}
 use Rattle.field.specs.Field.{FieldModel}
-use Rattle.token.specs.Tokens.{leadingSpaces, lineEndsIn, tokenAt, Cursor, cursorStart, skipSpaces, nextToken}
+use Rattle.token.specs.Tokens.{leadingSpaces, lineEndsIn, tokenAt, cursorStart, skipSpaces}
 use Rattle.token.proofs.Shows.{spaces-of}
 use Rattle.token.proofs.Places.{ends-append, skip-line, skip-place}
 use Rattle.sheet.specs.declared.terms.Terms.{Terms}
-use Rattle.expect.specs.Dues.{Due, Verdict.wrong, Passed, check, pass}
+use Rattle.expect.specs.Dues.{Verdict.wrong, Passed, check, pass}
 use Rattle.sheet.specs.Readings.{due, concluded, valued, reading}
 use Rattle.layout.specs.Marks.{Mark, Layout}
 use Rattle.layout.specs.Faults.{dueMarks, FirstFault, TellsFirst, RefusesSheets}

@@ -12,7 +12,7 @@ use Rattle.std.specs.shelf.Lists.{All}
 use Rattle.std.proofs.shelf.Signed.{ints}
 use Rattle.std.proofs.shelf.Ways.{tells}
 use Rattle.board.specs.declared.refusal.Refusal.{Refusal}
-use Rattle.token.specs.Tokens.{Cursor, cursorStart}
+use Rattle.token.specs.Tokens.{cursorStart}
 use Rattle.sheet.specs.declared.terms.Terms.{Terms}
 use Rattle.expect.specs.Dues.{Passed, pass}
 use Rattle.sheet.specs.Readings.{highLimit, due, lines, paired, concluded, parsed}
@@ -20,7 +20,7 @@ use Rattle.sheet.proofs.Fills.{flat, paired-flat}
 use Rattle.sheet.proofs.Passes.{high-fits, high-only}
 use Rattle.layout.specs.Marks.{Mark, headMarks, valueMarks, lineMarks, marks, Layout}
 use Rattle.layout.specs.Faults.{dueMarks, Kept}
-use Rattle.layout.proofs.Traces.{Read, Traced, trace, Arrived, arrive, pass-none}
+use Rattle.layout.proofs.Traces.{Traced, trace, arrive, pass-none}
 
 pub same-ok : {A : Type 0} {x y : A} → _≡_ {A = Result A Refusal} (Ok x) (Ok y) → x ≡ y
 same-ok e = cc

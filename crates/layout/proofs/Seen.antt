@@ -1,6 +1,6 @@
 -- One token: which mark it says, and which token a mark is read as. Assumes nothing.
-use mathlib.Core.Path.{_≡_, refl, sym, ap, ap₂, subst, _∙_}
-use mathlib.Core.Bool.{Bool, true, cond, _&&_}
+use mathlib.Core.Path.{_≡_, refl, sym, ap, subst, _∙_}
+use mathlib.Core.Bool.{true, cond}
 use mathlib.Core.List.{List, [], _∷_, _++_}
 use Prim.Native.Nat.{ℕ}
 use native.Mathlib.Omega.{arith}
@@ -9,7 +9,6 @@ use lib.IntN.{ℤ, pos}
 use lib.ListN.{length, drop, replicate, length-replicate}
 use lib.Signed.{leZ, _≤ℤ_}
 use Rattle.std.specs.shelf.Text.{sameBytes}
-use Rattle.std.specs.declared.option.Option.the-variants.{Some}
 use Rattle.std.proofs.shelf.Equals.{sameBytes-decides}
 use Rattle.std.proofs.shelf.Lists.{drop-at}
 use Rattle.std.proofs.shelf.Signed.{ints}
@@ -17,11 +16,11 @@ use Rattle.std.proofs.shelf.Tests.{cond-true, cond-both, and-parts, and-from, e
 use Rattle.board.specs.declared.refusal.Fault.the-variants as fault
 use Rattle.token.specs.Tokens as tokens
 use Rattle.token.specs.Tokens.{Token, isWord, leadingSpaces, kind, spelling, alike, isMalformed, tokenAt, width, Cursor, skipSpaces, afterToken, nextToken}
-use Rattle.token.proofs.Shows.{spaces-split, spaces-of, Shows, shows, Runs, solid-word, lone-number, sees-word, sees-number, no-space}
+use Rattle.token.proofs.Shows.{spaces-split, spaces-of, Shows, shows, solid-word, lone-number, sees-word, sees-number, no-space}
 use Rattle.expect.specs.declared.keyword.Keyword.{Keyword}
 use Rattle.expect.specs.declared.keyword.Keyword.the-variants as keyword
-use Rattle.expect.specs.Dues.{spelled, Fixed, Fixed.opening, Fixed.closing, Fixed.lineEnd, Fixed.sheetEnd, Fixed.word, fixedToken, Due, Due.the, Due.equal, Due.within, Verdict, Verdict.wrong, Verdict.fine, Verdict.keep, inRange, ofNumber, judged, check}
-use Rattle.layout.specs.Marks.{Mark, Mark.fixed, Mark.number, fixedBytes, Spells, Apart, Begins}
+use Rattle.expect.specs.Dues.{spelled, Fixed, Fixed.opening, Fixed.closing, Fixed.lineEnd, Fixed.sheetEnd, Fixed.word, fixedToken, Due, Due.the, Due.equal, Due.within, Verdict, Verdict.wrong, Verdict.fine, Verdict.keep, inRange, judged, check}
+use Rattle.layout.specs.Marks.{Mark, Mark.fixed, Mark.number, Spells, Apart, Begins}
 
 in-range-parts : (lo hi z : ℤ) → inRange lo hi z ≡ true → (lo ≤ℤ z) × (z ≤ℤ hi)
 in-range-parts lo hi z e = let p = and-parts (leZ lo z) (leZ z hi) e in (grind (arith, ints), grind (arith, ints))

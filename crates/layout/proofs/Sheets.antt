@@ -10,11 +10,10 @@ use Rattle.std.specs.declared.result.Result.the-variants.{Ok, Err}
 use Rattle.std.specs.shelf.Lists.{All}
 use Rattle.board.specs.declared.refusal.Refusal.{Refusal}
 use Rattle.field.specs.Field.{FieldModel, LawfulField}
-use Rattle.sheet.specs.declared.terms.Terms.{Terms}
-use Rattle.sheet.specs.Readings.{parsed, elements, valued, reading}
+use Rattle.sheet.specs.Readings.{parsed, elements, valued}
 use Rattle.layout.specs.Marks.{partsOf, marks, Layout}
-use Rattle.layout.specs.Sheets.{Sheet, Made, Allowed, ReadsSheets, ReadsAllowed}
-use Rattle.layout.proofs.Parts.{same-ok, IsPart, PartSheet, sheet-from, parsed-from}
+use Rattle.layout.specs.Sheets.{Made, ReadsSheets, ReadsAllowed}
+use Rattle.layout.proofs.Parts.{same-ok, IsPart, sheet-from, parsed-from}
 
 module _ {K : Type 0} (F : FieldModel K) where
   -- a reading comes of parts

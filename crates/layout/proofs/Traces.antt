@@ -2,7 +2,6 @@
 use mathlib.Core.Path.{_≡_, refl, sym, ap, subst, _∙_}
 use mathlib.Core.List.{List, [], _∷_, _++_, append-assoc, append-nil}
 use Prim.Native.Nat.{ℕ, _+_}
-use native.Mathlib.Omega.{arith}
 use lib.IntN.{ℤ, pos}
 use lib.ListN.{length, replicate}
 use Rattle.std.specs.declared.result.Result.the-variants.{Ok, Err}
@@ -13,10 +12,10 @@ use Rattle.board.specs.declared.refusal.Refusal.the-variants.{Sheet}
 use Rattle.token.specs.Tokens.{leadingSpaces, lineEndsIn, tokenAt, Cursor, skipSpaces, afterToken, nextToken}
 use Rattle.token.proofs.Shows.{spaces-split, skip-close}
 use Rattle.token.proofs.Places.{skip-line, skip-place, after-line, after-place}
-use Rattle.expect.specs.Dues.{Fixed, Due, Due.the, Due.equal, Due.within, Verdict, Verdict.wrong, Verdict.fine, Verdict.keep, inRange, Passed, check, settled, step, andThen, pass}
+use Rattle.expect.specs.Dues.{Due, Due.the, Due.equal, Due.within, Verdict, Verdict.wrong, Verdict.fine, Verdict.keep, inRange, Passed, check, settled, andThen, pass}
 use Rattle.layout.specs.Marks.{Mark, Mark.fixed, Mark.number, Begins, Layout}
 use Rattle.layout.specs.Faults.{dueMarks, Kept}
-use Rattle.layout.proofs.Seen.{Met, met, Taken, taken-fixed, taken-number, tokenFor, next-here, goes-here, fine-fixed, within-itself, in-range-from}
+use Rattle.layout.proofs.Seen.{Met, met, Taken, taken-fixed, taken-number, next-here, goes-here, fine-fixed, within-itself, in-range-from}
 
 -- a pass that went on: the numbers kept, and the marks laid out up to what is left
 pub record Read (ds : List Due) (kept out : List ℤ) (bs left : List ℕ) : Type 0 where

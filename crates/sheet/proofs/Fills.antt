@@ -1,8 +1,7 @@
 -- Reading a sheet into a tray, value by value. Assumes nothing.
 use mathlib.Core.Path.{_≡_, refl, sym, ap, subst, _∙_}
-use mathlib.Core.Bool.{cond}
 use mathlib.Core.List.{List, [], _∷_, _++_, append-assoc}
-use Prim.Native.Nat.{ℕ, suc, _+_, _-_, _<_, _≤_}
+use Prim.Native.Nat.{ℕ, suc, _+_, _-_, _<_}
 use native.Mathlib.Omega.{arith}
 use lib.Dec.{ltb}
 use lib.IntN.{ℤ, pos}
@@ -18,7 +17,7 @@ use Rattle.board.specs.declared.refusal.Refusal.the-variants.{TrayShort}
 use Rattle.token.specs.Tokens.{Cursor, cursorStart}
 use Rattle.sheet.specs.declared.terms.Terms.{Terms}
 use Rattle.expect.specs.Dues.{pass}
-use Rattle.sheet.specs.Readings.{due, claimDue, lines, valueLine, ending, paired, concluded, parsed, elements, valued, reading, claimOf, trayOf, Filled, readAnswer, trayAfter}
+use Rattle.sheet.specs.Readings.{due, claimDue, lines, valueLine, ending, paired, concluded, elements, valued, reading, claimOf, trayOf, Filled, readAnswer, trayAfter}
 use Rattle.expect.proofs.Passes.{on-first, stop-first}
 
 -- the element at j is the next to become z

@@ -10,7 +10,7 @@ use Rattle.board.specs.declared.refusal.Fault.the-variants as fault
 use Rattle.board.specs.declared.refusal.Refusal.{Refusal}
 use Rattle.token.specs.Tokens.{Cursor}
 use Rattle.expect.specs.Dues.{Due.within, partBelow, step, pass}
-use Rattle.expect.proofs.Passes.{stop-first, on-first, stop-step, on-step}
+use Rattle.expect.proofs.Passes.{on-first, stop-step, on-step}
 use Rattle.sheet.specs.declared.terms.Terms.{Terms}
 use Rattle.sheet.specs.Readings.{highLimit, front, formEnd, claimDue, lineFront, lineBack, valueLine}
 

@@ -1,14 +1,14 @@
 -- The line and the place of a reader, whatever it has read: the line ends and the bytes are those before it. Assumes nothing.
-use mathlib.Core.Path.{_≡_, refl, sym, ap, _∙_}
-use mathlib.Core.Bool.{Bool, true, false, cond, not, _&&_}
+use mathlib.Core.Path.{_≡_, refl, ap, _∙_}
+use mathlib.Core.Bool.{true, false, cond, not}
 use mathlib.Core.List.{List, [], _∷_, _++_}
-use Prim.Native.Nat.{ℕ, zero, suc, _+_, _≤_}
+use Prim.Native.Nat.{ℕ, zero, suc, _+_}
 use native.Mathlib.Omega.{arith}
 use lib.Dec.{eqb}
 use lib.ListN.{length, drop, replicate, length-drop}
 use Rattle.std.proofs.shelf.Tests.{cond-false, and-parts}
 use Rattle.std.proofs.shelf.Ways.{tells}
-use Rattle.token.specs.Tokens.{isStop, leadingSpaces, lineEndsIn, tokenAt, width, lineEnds, Cursor, skipSpaces, afterToken, nextToken, Token, Token.opening, Token.closing, Token.lineEnd, Token.sheetEnd, Token.word, Token.number, Token.malformed}
+use Rattle.token.specs.Tokens.{isStop, leadingSpaces, lineEndsIn, width, lineEnds, Cursor, skipSpaces, afterToken, nextToken, Token, Token.opening, Token.closing, Token.lineEnd, Token.sheetEnd, Token.word, Token.number, Token.malformed}
 use Rattle.token.proofs.Runs.{spaces-le, width-le}
 use Rattle.token.proofs.Shows.{spaces-split, Shows, shows, solid, Runs}
 

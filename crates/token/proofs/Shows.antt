@@ -1,20 +1,19 @@
 -- What the bytes are where a token is seen, and which token is seen at given bytes.
-use mathlib.Core.Path.{_≡_, refl, sym, ap, subst, _∙_}
-use mathlib.Core.Bool.{Bool, true, false, cond, not, _&&_, _||_}
+use mathlib.Core.Path.{_≡_, refl, sym, ap, _∙_}
+use mathlib.Core.Bool.{Bool, true, false, not, _&&_, _||_}
 use mathlib.Core.List.{List, [], _∷_, _++_}
-use mathlib.Core.Logic.{inl, inr, ⊎-elim}
-use Prim.Native.Nat.{ℕ, zero, suc, _+_, _≤_, _<_}
+use mathlib.Core.Logic.{⊎-elim}
+use Prim.Native.Nat.{ℕ, zero, suc, _+_, _<_}
 use native.Mathlib.Omega.{arith}
 use lib.Dec.{eqb, leb}
-use lib.IntN.{ℤ, pos, negℤ}
-use lib.ListN.{length, drop, replicate, length-replicate}
+use lib.IntN.{ℤ, negℤ}
+use lib.ListN.{length, drop, replicate}
 use Rattle.std.specs.Text.{asciiLower, asciiDigit}
 use Rattle.std.specs.declared.option.Option.{Option}
 use Rattle.std.specs.declared.option.Option.the-variants.{Some, None}
-use Rattle.std.proofs.shelf.Lists.{drop-at}
-use Rattle.std.proofs.shelf.Tests.{cond-true, cond-false, cond-both, cases-bool, and-parts, and-from, and-left, and-right, eqb-true, both-ways, not-true, not-from-false, leb-true, or-parts}
+use Rattle.std.proofs.shelf.Tests.{cond-true, cond-false, cond-both, cases-bool, and-parts, and-from, and-left, and-right, eqb-true, not-true, leb-true, or-parts}
 use Rattle.std.proofs.shelf.Ways.{tells}
-use Rattle.token.specs.Tokens.{RunEnded, isStop, leadingRun, leadingSpaces, eachByte, madeOf, isWord, isDigits, digitsValue, signedBy, numberOf, numeric, classed, tokenAt, width, Token, Token.opening, Token.closing, Token.lineEnd, Token.sheetEnd, Token.word, Token.number, Token.malformed}
+use Rattle.token.specs.Tokens.{RunEnded, isStop, leadingRun, leadingSpaces, eachByte, madeOf, isWord, isDigits, digitsValue, signedBy, numberOf, numeric, classed, tokenAt, Token, Token.opening, Token.closing, Token.lineEnd, Token.sheetEnd, Token.word, Token.number, Token.malformed}
 
 -- spaces, then what is left
 pub spaces-split : (bs : List ℕ) → bs ≡ replicate (leadingSpaces bs) 32 ++ drop (leadingSpaces bs) bs

@@ -1,30 +1,27 @@
 -- The text of a sheet: its lines, its length, and that it is read back. Assumes nothing.
 use mathlib.Core.Path.{_≡_, refl, sym, ap, subst, _∙_}
-use mathlib.Core.Bool.{Bool, true, false, cond, _&&_}
-use mathlib.Core.List.{List, [], _∷_, _++_, append-assoc}
-use Prim.Native.Nat.{ℕ, suc, _+_, _*_, _≤_, _<_, _^_}
+use mathlib.Core.Bool.{Bool, true, false, _&&_}
+use mathlib.Core.List.{List, [], _∷_, _++_}
+use Prim.Native.Nat.{ℕ, suc, _+_, _≤_, _<_, _^_}
 use native.Mathlib.Omega.{arith}
 use borrow.Author.Needs.{needs}
 use lib.IntN.{ℤ, pos, negsuc, negℤ, natAbs}
-use lib.ListN.{length, drop, getD, length-append}
+use lib.ListN.{length, getD}
 use Rattle.std.specs.Text.{asciiDigit}
 use Rattle.std.specs.Written.{decimal, signed}
-use Rattle.std.specs.shelf.Lists.{All}
 use Rattle.std.specs.declared.option.Option.the-variants.{Some, None}
 use Rattle.std.proofs.shelf.Decimals.{digits-decimal, value-decimal, length-decimal-le, decimal-some}
-use Rattle.std.proofs.shelf.Lists.{drop-more, drop-all}
 use Rattle.std.proofs.shelf.Numerals.{Numerals, numerals-by-fold}
 use Rattle.std.proofs.shelf.Tests.{cond-true, cond-both, and-parts}
 use Rattle.std.proofs.shelf.Ways.{tells}
 use Rattle.field.specs.Field.{FieldModel, LawfulField}
 use Rattle.token.specs.Tokens.{RunEnded, eachByte, isDigits, valueAfter, digitsValue, signedBy, numberOf}
 use Rattle.token.proofs.Runs.{made-of-yes, number-plain}
-use Rattle.expect.specs.declared.keyword.Keyword.the-variants.{Sheet, Grid, Claim, At}
 use Rattle.sheet.specs.declared.terms.Terms.{Terms}
-use Rattle.expect.specs.Dues.{Fixed, Fixed.opening, Fixed.closing, Fixed.lineEnd, Fixed.sheetEnd, Fixed.word}
-use Rattle.layout.specs.Marks.{Mark, Mark.fixed, Mark.number, sheetMarks, claimMarks, valueMarks, endMarks, lineMarks, headMarks, marks, partsOf, marksOf, Spells, Apart, Begins, Layout}
+use Rattle.expect.specs.Dues.{Fixed.opening, Fixed.closing, Fixed.lineEnd, Fixed.sheetEnd, Fixed.word}
+use Rattle.layout.specs.Marks.{Mark, Mark.fixed, Mark.number, lineMarks, partsOf, marksOf, Spells, Apart, Begins, Layout}
 use Rattle.layout.proofs.Sheets.{reads-sheets}
-use Rattle.writer.specs.Texts.{spacedAfter, spacedBefore, markBytes, spacedBytes, writtenOn, written, text}
+use Rattle.writer.specs.Texts.{spacedAfter, spacedBefore, markBytes, writtenOn, text}
 use Rattle.writer.specs.Laws.{Statable, ReadsBack}
 use Rattle.writer.proofs.Small.{characteristic-small, degree-small, low-small, high-small}
 

@@ -1,16 +1,16 @@
-use mathlib.Core.Path.{_≡_, refl, sym, ap, _∙_}
+use mathlib.Core.Path.{refl, sym, ap, _∙_}
 use mathlib.Core.List.{[], _∷_}
 use Prim.Native.Nat.{suc}
 use native.Mathlib.Omega.{arith}
 use borrow.Author.Needs.{needs}
 use mir.Syntax.{w64}
 use mir.Val.{SFits, toZ, ofZ}
-use Rattle.std.specs.declared.result.Result.the-variants.{Ok, Err}
+use Rattle.std.specs.declared.result.Result.the-variants.{Ok}
 use Rattle.std.proofs.shelf.Results.{err-from-errBy}
 use Rattle.std.proofs.shelf.Signed.{toZ-ofZ}
 use Rattle.token.specs.Readers.{cursorOf}
 use Rattle.expect.specs.Dues.{pass}
-use Rattle.sheet.specs.Readings.{claimDue, valueLine, elements, claimOf}
+use Rattle.sheet.specs.Readings.{claimDue, valueLine, claimOf}
 use Rattle.sheet.proofs.Fills.{flat, none-read, one-read, line-stops, ending-stops, all-read, tray-is, claim-stops, fills}
 use Rattle.sheet.proofs.sheet.fill.Needs as need
 

@@ -1,6 +1,5 @@
 use mathlib.Core.Path.{refl}
 use native.Mathlib.Omega.{arith}
-use borrow.Author.Needs.{needs}
 use Rattle.token.proofs.Runs.{spaces-le}
 use Rattle.token.proofs.Steps.{from-on, spaces-fit, token-fits, line-fits, after-is, token-is, place-is}
 use Rattle.token.proofs.token.Reader.next.Needs as need
