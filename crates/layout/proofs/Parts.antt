@@ -118,10 +118,10 @@ module _ (p e : ℕ) (t : Terms) (bs : List ℕ) where
       let r = lined p e 0 (suc (t .degree)) zs (k .2) in
       let are : r .values ≡ vs = sym (paired-flat (r .values)) ∙ ap paired (sym (r .are)) ∙ same-vs in
       let laid : Layout (marks p e t c vs) left bs = subst (λ ms. Layout ms left bs)
-          ((λ i. headMarks p e t (same-c i) ++ dueMarks (lines p e 0 (suc (t .degree))) (r .are i))
-          ∙ ap (λ ms. headMarks p e t c ++ ms) (marks-lines p e 0 (suc (t .degree)) (r .values) (r .count))
-          ∙ ap (λ ws. headMarks p e t c ++ lineMarks 0 ws) are)
-          l in
+      ((λ i. headMarks p e t (same-c i) ++ dueMarks (lines p e 0 (suc (t .degree))) (r .are i))
+      ∙ ap (λ ms. headMarks p e t c ++ ms) (marks-lines p e 0 (suc (t .degree)) (r .values) (r .count))
+      ∙ ap (λ ws. headMarks p e t c ++ lineMarks 0 ws) are)
+      l in
       let m = layout-behind (headMarks p e t c) (lineMarks 0 vs) left bs laid in
       record {
         layout = subst (λ ys. Layout (marks p e t c vs) ys bs) (lines-end 0 vs left (m .0) (m .1)) laid;

@@ -1,6 +1,6 @@
 // What the grammar has next, where only one thing will do.
-use board::Fault;
 use crate::keyword::Keyword;
+use board::Fault;
 
 #[derive(Clone, Copy)]
 pub(crate) enum Due {

@@ -9,12 +9,12 @@ ghost use Rattle.token.specs.Readers.{tokenOf, cursorOf};
 ghost use Rattle.sheet.specs.Dues.{Due.within as Within, spelled, check, step, pass};
 ghost use Rattle.sheet.specs.Readings.{partBelow};
 ghost use Rattle.sheet.specs.Expectations.{dueOf, verdictOf, passedOn, passedNumber, passedPart};
+use crate::due::Due;
+use crate::keyword::Keyword;
 use board::Fault;
 use board::Refusal;
 use token::Reader;
 use token::Token;
-use crate::due::Due;
-use crate::keyword::Keyword;
 
 impl Keyword {
     // The bytes of the word.

@@ -8,15 +8,15 @@ ghost use Rattle.token.specs.Readers.{cursorOf};
 ghost use Rattle.sheet.specs.Dues.{pass};
 ghost use Rattle.sheet.specs.Readings.{highLimit, valueLine, claimDue, ending};
 ghost use Rattle.sheet.specs.Expectations.{passedOn, passedNumber, passedParts};
-use board::Fault;
-use board::Refusal;
-use token::Reader;
 use crate::due::Due;
 use crate::expect::number;
 use crate::expect::part;
 use crate::expect::pass;
 use crate::keyword::Keyword;
 use crate::terms::Terms;
+use board::Fault;
+use board::Refusal;
+use token::Reader;
 
 // High parts are below this, at characteristic p and degree e.
 fn high_limit(p: u32, e: u32) -> u32

@@ -4,13 +4,13 @@ ghost use Prim.Native.Nat.{suc, _<_, _≤_};
 ghost use lib.ListN.{length};
 ghost use Rattle.board.specs.Banks.{filled};
 ghost use Rattle.sheet.specs.Readings.{reading, claimOf, Filled, readAnswer, trayAfter};
-use board::Refusal;
-use field::Field;
-use token::Reader;
 use crate::lines::claim_lines;
 use crate::lines::last_line;
 use crate::lines::value_line;
 use crate::terms::Terms;
+use board::Refusal;
+use field::Field;
+use token::Reader;
 
 // Reads a sheet into the first elements of the tray. After a fault they may hold a part of it.
 fn fill<F: Field>(sheet: &[u8], terms: &Terms, tray: &mut [F]) -> Result<i64, Refusal>
@@ -41,11 +41,7 @@ fn clear<F: Field>(tray: &mut [F], n: usize)
 }
 
 // Reads a sheet: leaves its values in the first degree + 1 elements of the tray and answers its claim, or leaves zeros there and tells its first fault.
-pub fn read_sheet<F: Field>(
-    sheet: &[u8],
-    terms: &Terms,
-    tray: &mut [F],
-) -> Result<i64, Refusal>
+pub fn read_sheet<F: Field>(sheet: &[u8], terms: &Terms, tray: &mut [F]) -> Result<i64, Refusal>
     ensures answer { λ r. ⌜ r ≡ readAnswer (F·Field .model) (now (terms .entry)) (now (sheet .entry)) (now (tray .entry)) ⌝ }
     ensures tray { λ _. ⌜ now (tray .exit) ≡ trayAfter (F·Field .model) (now (terms .entry)) (now (sheet .entry)) (now (tray .entry)) ⌝ }
 {

@@ -4,19 +4,12 @@ ghost use lib.ListN.{length};
 ghost use Rattle.layout.specs.Marks.{sheetMarks, claimMarks, valueMarks, endMarks};
 ghost use Rattle.writer.specs.Texts.{written};
 ghost use Rattle.writer.specs.Papers.{Lays};
-use sheet::Keyword;
 use crate::mark::Mark;
 use crate::put::put_marks;
+use sheet::Keyword;
 
 // The first line: the characteristic, the degree, the rows and the columns.
-pub(crate) fn put_sheet_line(
-    paper: &mut [u8],
-    at: usize,
-    p: u32,
-    e: u32,
-    h: u32,
-    v: u32,
-) -> usize
+pub(crate) fn put_sheet_line(paper: &mut [u8], at: usize, p: u32, e: u32, h: u32, v: u32) -> usize
     requires { ⌜ at + length (written (sheetMarks p e h v)) ≤ length (now paper) ⌝ }
     ensures { λ r. ⌜ Lays (written (sheetMarks p e h v)) (now (paper .entry)) at (now (paper .exit)) r ⌝ }
 {
@@ -40,12 +33,7 @@ pub(crate) fn put_sheet_line(
 }
 
 // The claim's line: the tag and the claim.
-pub(crate) fn put_claim_line(
-    paper: &mut [u8],
-    at: usize,
-    tag: (u32, u32, u32),
-    claim: i64,
-) -> usize
+pub(crate) fn put_claim_line(paper: &mut [u8], at: usize, tag: (u32, u32, u32), claim: i64) -> usize
     requires { ⌜ at + length (written (claimMarks (tag .0) (tag .1) (tag .2) claim)) ≤ length (now paper) ⌝ }
     ensures { λ r. ⌜ Lays (written (claimMarks (tag .0) (tag .1) (tag .2) claim)) (now (paper .entry)) at (now (paper .exit)) r ⌝ }
 {
@@ -68,13 +56,7 @@ pub(crate) fn put_claim_line(
 }
 
 // Value line j: the parts of a value.
-pub(crate) fn put_value_line(
-    paper: &mut [u8],
-    at: usize,
-    j: usize,
-    low: u32,
-    high: u32,
-) -> usize
+pub(crate) fn put_value_line(paper: &mut [u8], at: usize, j: usize, low: u32, high: u32) -> usize
     requires { ⌜ at + length (written (valueMarks j (low, high))) ≤ length (now paper) ⌝ }
     ensures { λ r. ⌜ Lays (written (valueMarks j (low, high))) (now (paper .entry)) at (now (paper .exit)) r ⌝ }
 {

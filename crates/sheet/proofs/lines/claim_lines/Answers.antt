@@ -31,8 +31,8 @@ returns-in-Break-pass-2 c =
     let g : SFits w64 (c .args .terms .now .greatest) = search needs in
     rw (p .1, p .2)
     (λ kept.
-        c .in-Break-pass-2 .ensures tt (kept ++ c .in-Continue-claim .claim ∷ [])
-        ∙ at-form-end (c .args .p) (c .args .e) (c .args .terms .now) _ _ (toZ-ofZ w64 _ f) (toZ-ofZ w64 _ g) kept _ _ (c .in-Continue-pass .ensures tt kept) _ _ (c .in-Continue-claim .ensures tt .read kept))
+    c .in-Break-pass-2 .ensures tt (kept ++ c .in-Continue-claim .claim ∷ [])
+    ∙ at-form-end (c .args .p) (c .args .e) (c .args .terms .now) _ _ (toZ-ofZ w64 _ f) (toZ-ofZ w64 _ g) kept _ _ (c .in-Continue-pass .ensures tt kept) _ _ (c .in-Continue-claim .ensures tt .read kept))
 
 pub returns : need.returns
 returns c =

@@ -19,7 +19,7 @@ returns-in-Break-claim g c =
     let F = g .F·Field .model in
     let p = err-from-errBy (c .from-residual .result) (c .from-residual .ensures .1) in
     let e = claim-stops F (c .args .terms .now) (c .args .sheet .now) _
-        (c .in-Break-claim .ensures tt [] ∙ (λ i. pass (claimDue (c .characteristic-p .ensures i) (c .degree-e .ensures i) (c .args .terms .now)) [] (c .new-reader .ensures i))) in
+    (c .in-Break-claim .ensures tt [] ∙ (λ i. pass (claimDue (c .characteristic-p .ensures i) (c .degree-e .ensures i) (c .args .terms .now)) [] (c .new-reader .ensures i))) in
     rw (p .1, p .2) (record { answer = ap (claimOf F) (sym e); tray = fills F (c .args .terms .now) (c .args .sheet .now) (suc (c .args .terms .now .degree)) (c .args .tray .now) (c .args .tray .now) _ e refl })
 
 pub loop-j-holds : need.loop-j-holds
@@ -37,7 +37,7 @@ returns-in-Break-low g c =
     let f = c .loop-j .inv in
     let kept = toZ w64 (ofZ w64 (c .in-Continue-claim .claim)) ∷ flat (f .parts) in
     let e = line-stops F (c .args .terms .now) (c .args .sheet .now) (suc (c .args .terms .now .degree)) _ (c .args .tray .now) (c .loop-j .j) (omega arith) (cursorOf (c .loop-j .reader)) (c .loop-j .tray) f _
-        (c .in-Break-low .ensures tt .read kept ∙ (λ i. pass (valueLine (c .characteristic-p .ensures i) (c .degree-e .ensures i) (c .loop-j .j)) kept (cursorOf (c .loop-j .reader)))) in
+    (c .in-Break-low .ensures tt .read kept ∙ (λ i. pass (valueLine (c .characteristic-p .ensures i) (c .degree-e .ensures i) (c .loop-j .j)) kept (cursorOf (c .loop-j .reader)))) in
     rw (p .1, p .2) (record { answer = ap (claimOf F) (sym e); tray = fills F (c .args .terms .now) (c .args .sheet .now) (suc (c .args .terms .now .degree)) (c .args .tray .now) (c .loop-j .tray) _ e (f .others) })
 
 pub loop-j-again : need.loop-j-again
