@@ -1,2 +1,3 @@
+pub mod Answered
 pub mod Stands
 mod Steps

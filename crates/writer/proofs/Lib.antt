@@ -1,2 +1,5 @@
 pub mod Papers
+pub mod Small
 pub mod Texts
+pub mod Lengths
+pub mod Wholes

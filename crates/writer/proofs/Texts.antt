@@ -2,7 +2,6 @@
 use mathlib.Core.Path.{_≡_, refl, sym, ap, subst, _∙_}
 use mathlib.Core.Bool.{Bool, true, false, cond, _&&_}
 use mathlib.Core.List.{List, [], _∷_, _++_, append-assoc}
-use mathlib.Core.Logic.{⊎-elim}
 use Prim.Native.Nat.{ℕ, suc, _+_, _*_, _≤_, _<_, _^_}
 use native.Mathlib.Omega.{arith}
 use borrow.Author.Needs.{needs}
@@ -26,7 +25,8 @@ use Rattle.sheet.specs.Dues.{Fixed, Fixed.opening, Fixed.closing, Fixed.lineEnd
 use Rattle.layout.specs.Marks.{Mark, Mark.fixed, Mark.number, sheetMarks, claimMarks, valueMarks, endMarks, lineMarks, headMarks, marks, partsOf, marksOf, Spells, Apart, Begins, Layout}
 use Rattle.layout.proofs.Sheets.{reads-sheets}
 use Rattle.writer.specs.Texts.{spacedAfter, spacedBefore, markBytes, spacedBytes, writtenOn, written, text}
-use Rattle.writer.specs.Laws.{TenDigits, Statable, ReadsBack, TextFits}
+use Rattle.writer.specs.Laws.{Statable, ReadsBack}
+use Rattle.writer.proofs.Small.{characteristic-small, degree-small, low-small, high-small}
 
 -- rows of digits and their values, in the shelf's words
 digits-own : Numerals (λ ds. eachByte asciiDigit ds ≡ true) (valueAfter 0)
@@ -88,29 +88,16 @@ laid-out space (fixed (word k) ∷ ms) t = begin-written space (fixed (word k)) 
 laid-out space (number z ∷ ms) t = begin-written space (number z) ms (number-back z (t .0)) (ended-on ms (t .1)) (laid-out true ms (t .1))
 
 module _ {K : Type 0} (F : FieldModel K) (L : LawfulField F) where
-  -- the parts of elements have at most ten digits
-  low-small : (x : K) → F .low x < 10 ^ 10
-  low-small x = let a = L .parts .within x .0 in let b = L .bounds .characteristic-most in omega arith
-
-  high-small : (x : K) → F .high x < 10 ^ 10
-  high-small x = let a = L .parts .within x .1 in let b = L .bounds .characteristic-most in omega arith
-
-  characteristic-small : F .characteristic < 10 ^ 10
-  characteristic-small = let b = L .bounds .characteristic-most in omega arith
-
-  degree-small : F .degree < 10 ^ 10
-  degree-small = ⊎-elim (λ e. omega arith) (λ e. omega arith) (L .bounds .degree-is)
-
   lines-tidy : (xs : List K) (j : ℕ) → j + length xs ≤ 10 ^ 10 → Tidy (lineMarks j (partsOf F xs))
   lines-tidy [] j h = refl
-  lines-tidy (x ∷ xs) j h = (omega arith, (low-small x, (high-small x, lines-tidy xs (suc j) (omega arith))))
+  lines-tidy (x ∷ xs) j h = (omega arith, (low-small F L x, (high-small F L x, lines-tidy xs (suc j) (omega arith))))
 
   tidy : (t : Terms) (c : ℤ) (xs : List K) → Statable t c xs → Tidy (marksOf F t c xs)
   tidy t c xs s =
       let d = s .degree-fits in
       let n = s .count in (
-        characteristic-small,
-        (degree-small, (s .terms-fit .rows-fit, (s .terms-fit .columns-fit, (s .terms-fit .kind-fits, (s .terms-fit .first-fits, (s .terms-fit .second-fits, (s .claim-fits, lines-tidy xs 0 (omega arith)))))))),
+        characteristic-small F L,
+        (degree-small F L, (s .terms-fit .rows-fit, (s .terms-fit .columns-fit, (s .terms-fit .kind-fits, (s .terms-fit .first-fits, (s .terms-fit .second-fits, (s .claim-fits, lines-tidy xs 0 (omega arith)))))))),
       )
 
   pub reads-back : ReadsBack F

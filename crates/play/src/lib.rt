@@ -1,0 +1,4 @@
+// A whole trial.
+pub fn placeholder() -> u8 {
+    0
+}

@@ -1,0 +1,15 @@
+pub mod Lists
+pub mod Runs
+pub mod Shapes
+pub mod Values
+pub mod Judgements
+pub mod Answers
+pub mod Ends
+pub mod Boxes
+pub mod Tests
+pub mod FalseClaims
+pub mod Honesty
+pub mod Promise
+pub mod Adequacy
+pub mod OneRow
+pub mod WorkedBoard

@@ -1,0 +1,66 @@
+-- The worked board's sheet fools boxes at the points 0 and 2. Assumes nothing.
+use mathlib.Core.Path.{_≡_, refl}
+use mathlib.Core.Logic.{inl}
+use mathlib.Core.List.{List, [], _∷_}
+use Prim.Native.Nat.{ℕ}
+use native.Mathlib.Omega.{arith}
+use lib.IntN.{pos, negsuc}
+use lib.ListN.{replicate}
+use Rattle.prime.specs.declared.residue.Residue.{Residue}
+use Rattle.prime.proofs.Fields.{lawful-65537}
+use Rattle.polynomial.specs.Interpolation.{node}
+use Rattle.polynomial.proofs.Nodes.{nodes-differ}
+use Rattle.question.specs.SquareSums.{squaresQuestion}
+use Rattle.question.proofs.SquaresLaw.{squares-lawful}
+use Rattle.sheet.specs.Dues.{pass}
+use Rattle.verifier.specs.Notes.{verifierOpened, verifierAfter}
+use Rattle.promise.specs.Runs.{Request, opening, noting, sealing, asking}
+use Rattle.promise.specs.Ends.{VerifierOpening, Judging}
+use Rattle.promise.specs.Sealed.{SealedVerifier, Fooled}
+use Rattle.promise.specs.WorkedBoard.{residues, move, told, claims13, listed13, points, BoundReached}
+
+-- a bank and a tray
+abbrev bank : List (Residue 65537)
+bank = replicate 8 (residues .zero)
+
+abbrev tray : List (Residue 65537)
+tray = replicate 3 (residues .zero)
+
+-- a box is opened at the point, told the moves, sealed, and judges the sheet
+abbrev requests : Residue 65537 → List (Request (VerifierOpening (Residue 65537)) (Judging (Residue 65537)))
+requests r =
+    opening (record { rows = 2; columns = 8; bank = bank; point = r })
+    ∷ noting (move 0 (pos 3)) ∷ noting (move 8 (pos 1)) ∷ noting (move 9 (negsuc 1)) ∷ sealing
+    ∷ asking (record { question = squaresQuestion residues; sheet = claims13; tray = tray }) ∷ []
+
+run : (r : Residue 65537) → SealedVerifier residues 2 8 told r
+run r = record {
+  requests = requests r;
+  shaped = (tt, (tt, (tt, (tt, (tt, (tt, tt))))));
+  opened = record { rows = 2; columns = 8; bank = bank; point = r };
+  grants = refl;
+  rows = refl;
+  columns = refl;
+  point = refl;
+  told = refl;
+  verifier = verifierAfter residues (verifierOpened residues 2 8 r bank) told;
+  ends = refl;
+}
+
+fooled-at-0 : Fooled residues 2 8 told listed13 (node residues 0)
+unfolding run pass
+fooled-at-0 = record { judges = record { run = run (node residues 0); listed = (inl refl, tt) }; accepts = inl (pos 13, refl, refl) }
+
+fooled-at-2 : Fooled residues 2 8 told listed13 (node residues 2)
+unfolding run pass
+fooled-at-2 = record { judges = record { run = run (node residues 2); listed = (inl refl, tt) }; accepts = inl (pos 13, refl, refl) }
+
+pub bound-reached : BoundReached
+unfolding pass
+bound-reached = record {
+  lawful = (squares-lawful lawful-65537, tt);
+  false-claim = (refl, tt);
+  different = ((nodes-differ lawful-65537 0 2 (omega arith) (omega arith) (omega arith), tt), (tt, tt));
+  fooled = (fooled-at-0, (fooled-at-2, tt));
+  bound = refl;
+}

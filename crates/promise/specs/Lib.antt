@@ -1,0 +1,10 @@
+pub mod Runs
+pub mod Ledgers
+pub mod Shapes
+pub mod Counts
+pub mod Ends
+pub mod Claims
+pub mod Sealed
+pub mod Promise
+pub mod Adequacy
+pub mod WorkedBoard
