@@ -94,7 +94,7 @@ module _ {K : Type 0} (F : FieldModel K) where
         let given = hostGiven F h v r ms q counts tray paper in
         let answer = promised .honest-accepted h v ms (host-run counts host-granted) q (order .lawful) (order .fitting) tray (order .tray-long) paper (order .paper-long) in
         let room : suc (q .degree h) ≤ length (given .tray) =
-            omega (arith, ap length (answer .values), length-append (honest F h v q (ledger h v (F .limit) ms .counts)) _, length-listed 0 (suc (q .degree h)) (λ j. q .rule h v (node F j) (columns F h v (ledger h v (F .limit) ms .counts) (node F j)))) in
+        omega (arith, ap length (answer .values), length-append (honest F h v q (ledger h v (F .limit) ms .counts)) _, length-listed 0 (suc (q .degree h)) (λ j. q .rule h v (node F j) (columns F h v (ledger h v (F .limit) ms .counts) (node F j)))) in
         ap₂ (λ a b. andThen a (λ _. andThen b (λ _. andThen (given .answer) (λ claimed. boxFound F h v r ms q sums (given .tray) (given .paper) (claimed .1))))) host-granted verifier-granted
         ∙ ap (λ a. andThen a (λ claimed. boxFound F h v r ms q sums (given .tray) (given .paper) (claimed .1))) (answer .answer)
         ∙ answer .accepted r (verifier-run sums verifier-granted) (given .tray) room

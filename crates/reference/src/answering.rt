@@ -3,12 +3,12 @@ use crate::arithmetic::Arithmetic;
 use crate::arithmetic::Element;
 use crate::ask::Ask;
 use crate::interpolation::columns_at;
-use crate::judging::put_front;
+use crate::reading::put_front;
 use crate::standing::Standing;
 use crate::stop::Stop;
 use crate::stop::StopFromAlloc;
 use crate::stop::StopFromRefused;
-use crate::text::write_sheet;
+use crate::text::lay_sheet;
 use std::alloc::Global;
 
 // The claim and the length of the sheet.
@@ -89,14 +89,6 @@ pub fn answer(
         .get(0..ask.degree(at).saturating_add(1) as usize)
         .unwrap_or(&[]);
     let claim = ask.tally(at, bank);
-    let text = write_sheet(heap, field, at.rows, at.columns, ask.tag(), claim, own)?;
-    for (i, byte) in text.as_bytes().iter().enumerate() {
-        if i < paper.len() {
-            paper[i] = *byte;
-        }
-    }
-    Ok(Answered {
-        claim,
-        length: text.len() as u64,
-    })
+    let length = lay_sheet(heap, field, at, ask.tag(), claim, own, paper)?;
+    Ok(Answered { claim, length })
 }

@@ -4,6 +4,8 @@ use crate::arithmetic::Element;
 use crate::ask::Ask;
 use crate::interpolation::value_at;
 use crate::reading::Sheet;
+use crate::reading::clear_front;
+use crate::reading::put_front;
 use crate::reading::read_sheet;
 use crate::standing::Standing;
 use crate::stop::Stop;
@@ -46,15 +48,6 @@ fn weigh(
     Ok(read)
 }
 
-// Puts values into the front of a tray.
-pub(crate) fn put_front(tray: &mut [Element], values: &[Element]) {
-    for (j, value) in values.iter().enumerate() {
-        if j < tray.len() {
-            tray[j] = *value;
-        }
-    }
-}
-
 // The accepted claim with the values in the tray, or a refusal; from 30 on it leaves zeros there.
 pub fn judge(
     heap: Global,
@@ -72,15 +65,7 @@ pub fn judge(
     if !ask.suits(at) {
         return Err(Stop::refusal(20));
     }
-    let degree = ask.degree(at);
-    if (tray.len() as u64) <= degree {
-        return Err(Stop::refusal(21));
-    }
-    for j in 0..tray.len() {
-        if j as u64 <= degree {
-            tray[j] = Element::zero();
-        }
-    }
+    clear_front(tray, ask.degree(at))?;
     let columns = bank.get(0..at.columns as usize).unwrap_or(&[]);
     let read = weigh(heap, field, at, point, columns, ask, sheet)?;
     put_front(tray, read.values.as_slice());

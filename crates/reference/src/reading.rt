@@ -71,3 +71,40 @@ pub fn read_sheet(
         }),
     }
 }
+
+// Puts zero into the first degree + 1 elements of a tray that has them.
+pub(crate) fn clear_front(tray: &mut [Element], degree: u64) -> Result<(), Stop> {
+    if (tray.len() as u64) <= degree {
+        return Err(Stop::refusal(21));
+    }
+    for j in 0..tray.len() {
+        if j as u64 <= degree {
+            tray[j] = Element::zero();
+        }
+    }
+    Ok(())
+}
+
+// Puts values into the front of a tray.
+pub(crate) fn put_front(tray: &mut [Element], values: &[Element]) {
+    for (j, value) in values.iter().enumerate() {
+        if j < tray.len() {
+            tray[j] = *value;
+        }
+    }
+}
+
+// Reads a sheet into the front of a tray: the claim, or a refusal, which from 30 on leaves zeros there.
+pub fn read_into(
+    heap: Global,
+    field: Arithmetic,
+    at: Standing,
+    ask: Ask,
+    sheet: &[u8],
+    tray: &mut [Element],
+) -> Result<i64, Stop> {
+    clear_front(tray, ask.degree(at))?;
+    let read = read_sheet(heap, field, at, ask, sheet)?;
+    put_front(tray, read.values.as_slice());
+    Ok(read.claim)
+}

@@ -37,11 +37,10 @@ impl Want {
     // The fault of a piece where a number is wanted.
     fn number_fault(self, text: &[u8]) -> u64 {
         let (least, greatest, fault) = match self {
-            Want::Number(n, fault) => (
-                i64::try_from(n).unwrap_or(-1),
-                i64::try_from(n).unwrap_or(-1),
-                fault,
-            ),
+            Want::Number(n, fault) => {
+                let value = i64::try_from(n).unwrap_or(-1);
+                (value, value, fault)
+            }
             Want::Kept(least, greatest, fault) => (least, greatest, fault),
             _ => return 0,
         };
