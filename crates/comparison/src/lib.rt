@@ -1,13 +1,19 @@
 // The product and the reference side by side: generated games, questions and sheets, and every answer compared.
 mod arithmetic;
 mod convert;
+mod damage;
 mod dice;
+mod falsehood;
 mod hosts;
+mod judgements;
 mod memory;
 mod outcome;
 mod report;
+mod sealed;
+mod stated;
 mod table;
 mod verifiers;
+mod writings;
 
 pub use arithmetic::compare_arithmetic;
 pub use dice::Dice;
