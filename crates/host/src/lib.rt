@@ -1,6 +1,7 @@
 // The host: the prover of the product. It counts moves, and answers questions about the counts with sheets.
 ghost use Rattle.host.specs.Notes.{HostKeepsLedger};
 
+mod answering;
 mod columns;
 mod counts;
 mod end;

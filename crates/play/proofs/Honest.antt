@@ -34,7 +34,7 @@ use Rattle.promise.specs.Runs.{Request, noting, sealing, listening, sealed, beg
 use Rattle.promise.specs.Sealed.{SealedHost, SealedVerifier, HonestAnswer}
 use Rattle.promise.specs.Shapes.{whole, complete}
 use Rattle.promise.proofs.Shapes.{runs-of}
-use Rattle.play.specs.Trials.{andThen, toldHost, toldBox, hostGiven, boxFound, trialAnswer, InOrder}
+use Rattle.play.specs.Trials.{hostGiven, judgedSheet, toldHost, toldBox, boxTrial, hostTrial, trial, InOrder}
 
 -- an open on an allowed grid with cells enough is granted
 open-granted : {A : Type 0} (h v n : ℕ) (bank : List A) → gridAllowed h v ≡ true → n ≤ length bank → openAnswer h v n bank ≡ Ok tt
@@ -87,14 +87,19 @@ module _ {K : Type 0} (F : FieldModel K) where
           ends = ap (λ a. after (verifierEnd F) (begun (verifierEnd F) a o) (map noting ms ++ (sealing ∷ []))) granted ∙ verifier-sealed (verifierEnd F .begin o) ms;
         }
 
-    pub honest-trial : Promised F → (counts : List ℤ) (sums tray : List K) (paper : List ℕ) → InOrder F h v r ms q counts sums tray paper → trialAnswer F h v r ms q counts sums tray paper ≡ Ok (trueCount F h v ms q)
+    pub honest-trial : Promised F → (counts : List ℤ) (sums tray : List K) (paper : List ℕ) → InOrder F h v r ms q counts sums tray paper → trial F h v r ms q counts sums tray paper .answer ≡ Ok (trueCount F h v ms q)
+    unfolding host-run verifier-run
     honest-trial promised counts sums tray paper order =
         let host-granted = open-granted h v (h * v) counts (order .allowed) (order .counts-long) in
         let verifier-granted = open-granted h v v sums (order .allowed) (order .sums-long) in
-        let given = hostGiven F h v r ms q counts tray paper in
+        let given = hostGiven F (toldHost F h v r ms q counts) q tray paper in
         let answer = promised .honest-accepted h v ms (host-run counts host-granted) q (order .lawful) (order .fitting) tray (order .tray-long) paper (order .paper-long) in
+        let fs = ledger h v (F .limit) ms .counts in
+        let rest = columns F h v fs (node F (q .degree h)) ++ drop (suc (q .degree h) + v) tray in
+        let values : given .tray ≡ honest F h v q fs ++ rest = answer .values in
         let room : suc (q .degree h) ≤ length (given .tray) =
-        omega (arith, ap length (answer .values), length-append (honest F h v q (ledger h v (F .limit) ms .counts)) _, length-listed 0 (suc (q .degree h)) (λ j. q .rule h v (node F j) (columns F h v (ledger h v (F .limit) ms .counts) (node F j)))) in
-        ap₂ (λ a b. andThen a (λ _. andThen b (λ _. andThen (given .answer) (λ claimed. boxFound F h v r ms q sums (given .tray) (given .paper) (claimed .1))))) host-granted verifier-granted
-        ∙ ap (λ a. andThen a (λ claimed. boxFound F h v r ms q sums (given .tray) (given .paper) (claimed .1))) (answer .answer)
+            omega (arith, ap length values, length-append (honest F h v q fs) rest, length-listed 0 (suc (q .degree h)) (λ j. q .rule h v (node F j) (columns F h v fs (node F j)))) in
+        ap (λ a. hostTrial F h v r ms q a counts sums tray paper .answer) host-granted
+        ∙ ap (λ a. boxTrial F h v r ms q a counts sums tray paper .answer) verifier-granted
+        ∙ ap (λ a. judgedSheet F (toldBox F h v r ms q sums) q a (given .tray) (given .paper) .answer) (answer .answer)
         ∙ answer .accepted r (verifier-run sums verifier-granted) (given .tray) room

@@ -1,1 +1,2 @@
+pub mod States
 pub mod Trials

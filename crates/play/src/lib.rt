@@ -1,4 +1,6 @@
-// A whole trial.
-pub fn placeholder() -> u8 {
-    0
-}
+// A whole trial, and with it the promise that the two ends make.
+mod telling;
+mod trial;
+
+pub use trial::exchange;
+pub use trial::play_trial;

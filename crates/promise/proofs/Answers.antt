@@ -1,6 +1,6 @@
 -- What a host whose bank begins with the counts gives for a lawful question that fits. There is no run in it.
 -- Assumes nothing but the laws of the field and of the question.
-use mathlib.Core.Path.{_≡_, refl, _∙_, ap, ap₂}
+use mathlib.Core.Path.{_≡_, refl, ap₂}
 use mathlib.Core.List.{List}
 use Prim.Native.Nat.{ℕ, suc, _+_, _*_, _≤_}
 use lib.IntN.{ℤ}

@@ -20,10 +20,9 @@ use Rattle.verifier.specs.Notes.{VerifierState}
 use Rattle.verifier.specs.Judging.{Judgement, judged}
 use Rattle.promise.specs.Runs.{moves}
 use Rattle.promise.specs.Ends.{VerifierOpening, Judging, verifierEnd}
-use Rattle.promise.specs.Claims.{Entry}
 use Rattle.promise.specs.Sealed.{SealedVerifier, judgings}
 use Rattle.promise.proofs.Lists.{each-map}
-use Rattle.promise.proofs.Runs.{Replied, Ran, ran-at}
+use Rattle.promise.proofs.Runs.{Ran, ran-at}
 use Rattle.promise.proofs.Ends.{VerifierStands, verifier-keeps}
 use Rattle.promise.proofs.Judgements.{Passed, accepted-passed}
 

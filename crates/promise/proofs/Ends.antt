@@ -1,6 +1,6 @@
 -- Box and host stand to the ledger as they should in every run: the box's bank begins with the columns of the counts at its point, the host's with the counts.
 -- Assumes nothing but the laws of the field.
-use mathlib.Core.Path.{_≡_, ap}
+use mathlib.Core.Path.{ap}
 use Prim.Native.Nat.{_*_}
 use lib.ListN.{drop}
 use Rattle.field.specs.Field.{FieldModel, LawfulField}

@@ -1,10 +1,10 @@
 -- A sheet with a false claim is accepted at few points, and any other accepted sheet claims the true count.
 -- Assumes nothing but the laws of the field, and of the questions.
 use mathlib.Core.Path.{_≡_, refl, sym, _∙_, ap, ap₂, subst}
-use mathlib.Core.Logic.{_≢_, inl, inr}
+use mathlib.Core.Logic.{_≢_}
 use mathlib.Core.Bool.{Bool, true, false, cond, _&&_, true≢false}
 use mathlib.Core.List.{List, [], _∷_}
-use Prim.Native.Nat.{ℕ, _+_, _≤_}
+use Prim.Native.Nat.{ℕ, _≤_}
 use native.Mathlib.Omega.{arith}
 use lib.Dec.{ltb}
 use lib.IntN.{ℤ, natAbs, _-ℤ_}
@@ -19,18 +19,18 @@ use Rattle.polynomial.specs.Lists.{Each, Any, Distinct}
 use Rattle.polynomial.specs.Columns.{columns}
 use Rattle.polynomial.proofs.Counts.{Sorted, sort, split-length, distinct-first, distinct-second}
 use Rattle.question.specs.Question.{Fits, LawfulQuestion}
-use Rattle.protocol.specs.Asking.{isFit, readSheet, termsOf}
+use Rattle.protocol.specs.Asking.{isFit, termsOf}
 use Rattle.layout.proofs.Sheets.{reads-sheets}
 use Rattle.promise.specs.Counts.{Agree}
 use Rattle.verifier.specs.Judging.{Judgement}
 use Rattle.promise.specs.Ends.{Judging}
-use Rattle.promise.specs.Claims.{Entry, claimDiffers, trueCount, claimsFalsely, falseDegrees}
+use Rattle.promise.specs.Claims.{Entry, claimDiffers, trueCount, FalseClaim, claimsFalsely, falseDegrees}
 use Rattle.promise.specs.Sealed.{judgings, entryOf, Fooled}
 use Rattle.promise.specs.Promise.{FewPoints, OthersTrue}
 use Rattle.promise.proofs.Lists.{each-map, any-map, each-both, pick}
 use Rattle.promise.proofs.Values.{false-unlike, unlike-few}
 use Rattle.promise.proofs.Judgements.{Passed}
-use Rattle.promise.proofs.Tests.{not-apart, apart}
+use Rattle.promise.proofs.Tests.{not-apart, apart, false-claim, tests-true}
 use Rattle.promise.proofs.Boxes.{countsOf, within, JudgedBy, settled, accepted-at}
 
 module _ {K : Type 0} {F : FieldModel K} (L : LawfulField F) (h v : ℕ) (ms : List Move) where
@@ -38,8 +38,12 @@ module _ {K : Type 0} {F : FieldModel K} (L : LawfulField F) (h v : ℕ) (ms : L
   tested : (r : K) (cs : List K) (e : Entry K) (c : ℤ) → Passed L h v r cs (e .question) (e .sheet) c → claimsFalsely F h v ms e ≡ ltb 0 (natAbs (c -ℤ trueCount F h v ms (e .question)))
   tested r cs e c p = ap₂ (λ f said. isFit f && claimDiffers said (trueCount F h v ms (e .question))) (p .fit) (p .reads)
 
-  claim-true : (r : K) (cs : List K) (e : Entry K) (c : ℤ) → Passed L h v r cs (e .question) (e .sheet) c → claimsFalsely F h v ms e ≡ false → c ≡ trueCount F h v ms (e .question)
-  claim-true r cs e c p f = not-apart c (trueCount F h v ms (e .question)) (sym (tested r cs e c p) ∙ f)
+  claim-true : (r : K) (cs : List K) (e : Entry K) (c : ℤ) → Passed L h v r cs (e .question) (e .sheet) c → ¬ FalseClaim F h v ms e → c ≡ trueCount F h v ms (e .question)
+  claim-true r cs e c p n = go (claimsFalsely F h v ms e) refl
+    where
+      go : (b : Bool) → claimsFalsely F h v ms e ≡ b → c ≡ trueCount F h v ms (e .question)
+      go true f = absurd (n (false-claim F h v ms e f))
+      go false f = not-apart c (trueCount F h v ms (e .question)) (sym (tested r cs e c p) ∙ f)
 
   claim-false : (r : K) (cs : List K) (e : Entry K) (c : ℤ) → Passed L h v r cs (e .question) (e .sheet) c → claimsFalsely F h v ms e ≡ true → c ≢ trueCount F h v ms (e .question)
   claim-false r cs e c p f = apart c (trueCount F h v ms (e .question)) (sym (tested r cs e c p) ∙ f)
@@ -98,10 +102,10 @@ module _ {K : Type 0} {F : FieldModel K} (L : LawfulField F) (h v : ℕ) (ms : L
       let found = pick _ _ gs (k .accepts) (each-both _ _ gs (k .judges .listed) (settled L h v ms r (k .judges .run) .all)) in
       go (found .0) (found .1 .0) (found .1 .1) (found .1 .2) (found .2 .0) (found .2 .1)
     where
-      go : (g : Judging K × Judgement K) (c : ℤ) → g .1 .answer ≡ Ok c → claimsFalsely F h v ms (entryOf (g .0)) ≡ true → Any (λ e. e ≡ entryOf (g .0)) es → JudgedBy L h v ms r g → Any (FalselyAt r) es
+      go : (g : Judging K × Judgement K) (c : ℤ) → g .1 .answer ≡ Ok c → FalseClaim F h v ms (entryOf (g .0)) → Any (λ e. e ≡ entryOf (g .0)) es → JudgedBy L h v ms r g → Any (FalselyAt r) es
       go g c a f o j =
           any-map _ _ es
-          (λ e s. (subst (λ w. claimsFalsely F h v ms w ≡ true) (sym s) f, subst (AcceptedAt r) (sym s) (record { allowed = j .holds .allowed; claim = c; passed = accepted-at L h v ms r g c j a })))
+          (λ e s. (subst (λ w. claimsFalsely F h v ms w ≡ true) (sym s) (tests-true F h v ms (entryOf (g .0)) f), subst (AcceptedAt r) (sym s) (record { allowed = j .holds .allowed; claim = c; passed = accepted-at L h v ms r g c j a })))
           o
 
 module _ {K : Type 0} {F : FieldModel K} (L : LawfulField F) where

@@ -1,4 +1,4 @@
--- An honest host's sheet is accepted at every point. Assumes nothing but the laws of the field, of the question and of the text of sheets.
+-- An honest host's sheet is accepted at every point. Assumes nothing but the laws of the field and of the question.
 use mathlib.Core.Path.{_≡_, refl, _∙_, ap, subst₃}
 use mathlib.Core.Logic.{inr}
 use mathlib.Core.Bool.{true}
@@ -13,7 +13,6 @@ use Rattle.board.specs.declared.game.Move.{Move}
 use Rattle.board.specs.Grids.{gridAllowed}
 use Rattle.board.specs.Ledger.{ledger}
 use Rattle.question.specs.Question.{Fits}
-use Rattle.writer.specs.Laws.{TextFits}
 use Rattle.host.specs.Answering.{answered, honestSheet}
 use Rattle.host.specs.Notes.{HostState}
 use Rattle.verifier.specs.Judging.{judged}
@@ -45,8 +44,8 @@ module _ {K : Type 0} (F : FieldModel K) where
       there : Counting (run .opened .rows) (run .opened .columns) (moves (run .requests)) (run .host)
       there = record { bank = s .bank; allowed = s .allowed; long = s .long; right = s .right; answers = λ a. ap (λ z. hostEnd F .reply z a) (s .is) }
 
-  pub honest-answers : LawfulField F → TextFits F → HonestAccepted F
-  honest-answers L H h v ms run q Q f tray t paper p =
+  pub honest-answers : LawfulField F → HonestAccepted F
+  honest-answers L h v ms run q Q f tray t paper p =
       let k = counting h v ms run in
       let fs = countsOf F h v ms in
       let fit : Fits q h v = record { grid = k .allowed; fit = f } in
@@ -58,12 +57,12 @@ module _ {K : Type 0} (F : FieldModel K) where
       record {
         size = n;
         answer = ap (λ z. z .answer) given;
-        inside = omega (arith, honest-short L q Q h v fit fs w H);
+        inside = omega (arith, honest-short L q Q h v fit fs w);
         values = ap (λ z. z .tray) given;
         rest = ap (drop n) left ∙ drop-at sheet (drop n paper) n refl;
-        accepted = λ r box long t′.
+        accepted = λ r box tray′ t′.
             let z = settled L h v ms r box .holds in
-            ap (λ j. j .answer) (z .judges (record { question = q; sheet = take n (hostGives F h v ms run q tray paper .paper); tray = long }))
-            ∙ ap (λ bs. judged F h v r (z .bank) q bs long .answer) (ap (take n) left ∙ take-at sheet (drop n paper) n refl)
-            ∙ honest-accepted L q Q h v fit fs w r (z .bank) (z .long) (z .right) long t′;
+            ap (λ j. j .answer) (z .judges (record { question = q; sheet = take n (hostGives F h v ms run q tray paper .paper); tray = tray′ }))
+            ∙ ap (λ bs. judged F h v r (z .bank) q bs tray′ .answer) (ap (take n) left ∙ take-at sheet (drop n paper) n refl)
+            ∙ honest-accepted L q Q h v fit fs w r (z .bank) (z .long) (z .right) tray′ t′;
       }

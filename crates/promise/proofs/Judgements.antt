@@ -3,7 +3,7 @@
 use mathlib.Core.Path.{_≡_, refl, sym, _∙_, ap, ap₂, subst}
 use mathlib.Core.Bool.{Bool, true, false, cond, _&&_, true≢false}
 use mathlib.Core.List.{List}
-use Prim.Native.Nat.{ℕ, suc, _≤_, _<_}
+use Prim.Native.Nat.{ℕ, suc, _≤_}
 use native.Mathlib.Omega.{arith}
 use lib.Dec.{leb, ltb}
 use lib.IntN.{ℤ}
@@ -23,7 +23,8 @@ use Rattle.polynomial.specs.Columns.{columns}
 use Rattle.question.specs.declared.outcome.Fit.{Fit}
 use Rattle.question.specs.declared.outcome.Fit.the-variants as fit
 use Rattle.question.specs.Question.{QuestionModel, Fits, Within, LawfulQuestion}
-use Rattle.writer.specs.Laws.{TenDigits, Statable, TextFits}
+use Rattle.writer.specs.Laws.{TenDigits}
+use Rattle.writer.proofs.Lengths.{text-fits}
 use Rattle.writer.proofs.Texts.{reads-back}
 use Rattle.protocol.specs.Asking.{isFit, suits, termsOf, readSheet, claimImage, honest}
 use Rattle.host.specs.Answering.{honestSheet}
@@ -117,8 +118,8 @@ module _ {K : Type 0} {F : FieldModel K} (L : LawfulField F) where
         count = length-honest L q Q h v fit fs;
       })
 
-      pub honest-short : TextFits F → length (honestSheet F h v q fs) ≤ 9216
-      honest-short fits = fits (termsOf q h v) (q .tally h v fs) (honest F h v q fs) ten-digits (omega (arith, tally-range)) (omega (arith, length-honest L q Q h v fit fs, degree-small L q Q h v fit))
+      pub honest-short : length (honestSheet F h v q fs) ≤ 9216
+      honest-short = text-fits F L (termsOf q h v) (q .tally h v fs) (honest F h v q fs) ten-digits (omega (arith, tally-range)) (omega (arith, length-honest L q Q h v fit fs, degree-small L q Q h v fit))
 
       found-honest : (r : K) → found F h v r (columns F h v fs r) q (Ok (q .tally h v fs, honest F h v q fs)) ≡ Ok (q .tally h v fs)
       found-honest r = rw (same-eq (L .parts) _ _ (honest-add-up L q Q h v fit fs w), same-eq (L .parts) _ _ (honest-agree L q Q h v fit fs r)) refl

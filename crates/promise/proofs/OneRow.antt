@@ -2,7 +2,7 @@
 use mathlib.Core.Path.{_≡_, refl}
 use mathlib.Core.Bool.{Bool, true, false, cond}
 use mathlib.Core.List.{List, [], _∷_}
-use Prim.Native.Nat.{ℕ, _+_, _≤_}
+use Prim.Native.Nat.{ℕ, _≤_}
 use native.Mathlib.Omega.{arith}
 use Rattle.field.specs.Field.{FieldModel, LawfulField}
 use Rattle.board.specs.declared.game.Move.{Move}
@@ -10,7 +10,6 @@ use Rattle.board.specs.Grids.{gridAllowed}
 use Rattle.polynomial.specs.Lists.{Each}
 use Rattle.question.specs.Question.{LawfulQuestion}
 use Rattle.promise.specs.Claims.{Entry, claimsFalsely, falseDegrees}
-use Rattle.promise.specs.Sealed.{Fooled}
 use Rattle.promise.specs.Adequacy.{NoneOnOneRow}
 use Rattle.promise.proofs.Tests.{false-claim}
 use Rattle.promise.proofs.Boxes.{settled}

@@ -1,7 +1,7 @@
 -- Runs of an end that stands in a relation to a ledger: the relation holds at the run's end, the notes are answered as the ledger answers them,
 -- and a sealed end stood in the relation whenever it replied. Assumes nothing.
 use mathlib.Core.Path.{_≡_, refl, sym, ap₂, subst}
-use mathlib.Core.Logic.{_⊎_, inl, inr}
+use mathlib.Core.Logic.{inl, inr}
 use mathlib.Core.List.{List, [], _∷_}
 use mathlib.Core.Option.{some}
 use Prim.Native.Nat.{ℕ}

@@ -1,5 +1,5 @@
 -- The test for false claims holds exactly of the false claims. Assumes nothing.
-use mathlib.Core.Path.{_≡_, refl, sym, _∙_, ap₂}
+use mathlib.Core.Path.{_≡_, refl, _∙_, ap₂}
 use mathlib.Core.Logic.{_≢_}
 use mathlib.Core.Bool.{Bool, true, false, _&&_}
 use Prim.Native.Nat.{ℕ, _≤_, _<_}
@@ -43,7 +43,7 @@ module _ {K : Type 0} (F : FieldModel K) (h v : ℕ) (ms : List Move) (e : Entry
       go fit.Fits (Err x) p r z = absurd (clash z)
       go fit.Fits (Ok s) p r z = record { fit = p; claim = s .0; values = s .1; reads = r; wrong = apart (s .0) (trueCount F h v ms (e .question)) z }
 
-  tests-true : FalseClaim F h v ms e → claimsFalsely F h v ms e ≡ true
+  pub tests-true : FalseClaim F h v ms e → claimsFalsely F h v ms e ≡ true
   tests-true k =
       ap₂ (λ f s. isFit f && claimDiffers s (trueCount F h v ms (e .question))) (k .fit) (k .reads)
       ∙ tests-apart (k .claim) (trueCount F h v ms (e .question)) (k .wrong)

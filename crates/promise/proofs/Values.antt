@@ -1,13 +1,13 @@
 -- Values against counts: values unlike the honest ones pass at few points, a false claim has such values, and honest values pass everywhere.
 -- Assumes nothing but the laws of the field and of the question.
 use mathlib.Core.Path.{_≡_, refl, sym, _∙_, ap, ap₂}
-use mathlib.Core.Logic.{_≢_, _⊎_, inl, inr}
+use mathlib.Core.Logic.{_≢_, inl, inr}
 use mathlib.Core.List.{List, [], _∷_}
 use Prim.Native.Nat.{ℕ, zero, suc, _+_, _-_, _%_, _≤_, _<_}
 use native.Mathlib.Nat.{mod-eq-of-lt}
 use native.Mathlib.Omega.{arith}
-use lib.IntN.{ℤ, pos, negsuc, negℤ, _-ℤ_, natAbs}
-use lib.Signed.{_≤ℤ_, _<ℤ_}
+use lib.IntN.{ℤ, pos, negsuc, _-ℤ_, natAbs}
+use lib.Signed.{_≤ℤ_}
 use lib.ListN.{length, getD, take}
 use Rattle.std.proofs.shelf.Signed.{ints}
 use Rattle.field.specs.Field.{FieldModel, LawfulField, InRange, modulo}
@@ -15,7 +15,7 @@ use Rattle.field.proofs.Consequences.{image-sub}
 use Rattle.field.proofs.Sameness.{decided}
 use Rattle.field.proofs.Solver.{sides, solve}
 use Rattle.board.proofs.Opens.{wide}
-use Rattle.polynomial.specs.Lists.{Each, Distinct, listed}
+use Rattle.polynomial.specs.Lists.{Each, Distinct}
 use Rattle.polynomial.specs.Sums.{listSum}
 use Rattle.polynomial.specs.Polynomials.{sub, eval, scaled, sum}
 use Rattle.polynomial.specs.Interpolation.{node, interpolant}

@@ -2,10 +2,10 @@
 use mathlib.Core.Path.{_≡_, refl}
 use mathlib.Core.Logic.{inl}
 use mathlib.Core.List.{List, [], _∷_}
-use Prim.Native.Nat.{ℕ}
 use native.Mathlib.Omega.{arith}
 use lib.IntN.{pos, negsuc}
 use lib.ListN.{replicate}
+use Rattle.std.specs.declared.result.Result.the-variants.{Ok}
 use Rattle.prime.specs.declared.residue.Residue.{Residue}
 use Rattle.prime.proofs.Fields.{lawful-65537}
 use Rattle.polynomial.specs.Interpolation.{node}
@@ -16,8 +16,10 @@ use Rattle.sheet.specs.Dues.{pass}
 use Rattle.verifier.specs.Notes.{verifierOpened, verifierAfter}
 use Rattle.promise.specs.Runs.{Request, opening, noting, sealing, asking}
 use Rattle.promise.specs.Ends.{VerifierOpening, Judging}
-use Rattle.promise.specs.Sealed.{SealedVerifier, Fooled}
-use Rattle.promise.specs.WorkedBoard.{residues, move, told, claims13, listed13, points, BoundReached}
+use Rattle.promise.specs.Claims.{FalseClaim}
+use Rattle.promise.specs.Sealed.{SealedVerifier, verifierGives, Fooled}
+use Rattle.promise.specs.WorkedBoard.{residues, move, told, claims13, entry13, BoundReached}
+use Rattle.promise.proofs.Tests.{false-claim}
 
 -- a bank and a tray
 abbrev bank : List (Residue 65537)
@@ -47,20 +49,20 @@ run r = record {
   ends = refl;
 }
 
-fooled-at-0 : Fooled residues 2 8 told listed13 (node residues 0)
-unfolding run pass
-fooled-at-0 = record { judges = record { run = run (node residues 0); listed = (inl refl, tt) }; accepts = inl (pos 13, refl, refl) }
+false13 : FalseClaim residues 2 8 told entry13
+unfolding pass
+false13 = false-claim residues 2 8 told entry13 refl
 
-fooled-at-2 : Fooled residues 2 8 told listed13 (node residues 2)
-unfolding run pass
-fooled-at-2 = record { judges = record { run = run (node residues 2); listed = (inl refl, tt) }; accepts = inl (pos 13, refl, refl) }
+fooled-at : (r : Residue 65537) → verifierGives residues 2 8 told (run r) (squaresQuestion residues) claims13 tray .answer ≡ Ok (pos 13) → Fooled residues 2 8 told (entry13 ∷ []) r
+unfolding run
+fooled-at r e = record { judges = record { run = run r; listed = (inl refl, tt) }; accepts = inl (pos 13, e, false13) }
 
 pub bound-reached : BoundReached
-unfolding pass
+unfolding run pass
 bound-reached = record {
-  lawful = (squares-lawful lawful-65537, tt);
-  false-claim = (refl, tt);
+  lawful = squares-lawful lawful-65537;
+  false-claim = false13;
   different = ((nodes-differ lawful-65537 0 2 (omega arith) (omega arith) (omega arith), tt), (tt, tt));
-  fooled = (fooled-at-0, (fooled-at-2, tt));
+  fooled = (fooled-at (node residues 0) refl, (fooled-at (node residues 2) refl, tt));
   bound = refl;
 }

@@ -1,16 +1,17 @@
 -- That the promise says what it should: its runs exist and are unique, its premises can be met, and its bound is reached. Assumes nothing.
 use mathlib.Core.Path.{_≡_}
 use mathlib.Core.Bool.{true}
-use mathlib.Core.List.{List, [], _∷_}
+use mathlib.Core.List.{List, []}
 use Prim.Native.Nat.{ℕ}
 use Rattle.field.specs.Field.{FieldModel}
 use Rattle.board.specs.declared.game.Move.{Move}
+use Rattle.board.specs.Grids.{gridAllowed}
 use Rattle.polynomial.specs.Lists.{Each}
 use Rattle.question.specs.Question.{LawfulQuestion}
 use Rattle.promise.specs.Ends.{VerifierOpening, verifierEnd, hostEnd}
 use Rattle.promise.specs.Shapes.{RunsOf}
 use Rattle.promise.specs.Claims.{Entry, FalseClaim, claimsFalsely}
-use Rattle.promise.specs.Sealed.{Fooled}
+use Rattle.promise.specs.Sealed.{SealedVerifier, SealedHost, Fooled}
 
 -- the same opening at another point
 abbrev pub at : {K : Type 0} → K → VerifierOpening K → VerifierOpening K
@@ -21,6 +22,11 @@ module _ {K : Type 0} (F : FieldModel K) where
   pub record EveryListRuns : Type 0 where
     pub verifier : RunsOf (verifierEnd F)
     pub host : RunsOf (hostEnd F)
+
+  -- on every allowed grid, for all moves and at every point there are sealed runs
+  pub record SealedRuns : Type 0 where
+    pub verifier : (h v : ℕ) → gridAllowed h v ≡ true → (ms : List Move) (r : K) → SealedVerifier F h v ms r
+    pub host : (h v : ℕ) → gridAllowed h v ≡ true → (ms : List Move) → SealedHost F h v ms
 
   -- whether a box is opened does not depend on its point
   abbrev pub GrantedAnywhere : Type 0

@@ -1,6 +1,5 @@
 -- What the two ends promise, over every lawful field and all lawful questions. Assumes nothing.
 use mathlib.Core.Path.{_≡_}
-use mathlib.Core.Bool.{false}
 use mathlib.Core.List.{List}
 use mathlib.Core.Option.{some}
 use Prim.Native.Nat.{ℕ, suc, _+_, _*_, _≤_}
@@ -14,14 +13,13 @@ use Rattle.polynomial.specs.Lists.{Each, Distinct}
 use Rattle.polynomial.specs.Columns.{columns}
 use Rattle.question.specs.declared.outcome.Fit.the-variants as fit
 use Rattle.question.specs.Question.{QuestionModel, LawfulQuestion}
-use Rattle.writer.specs.Laws.{TextFits}
 use Rattle.host.specs.Notes.{HostState}
 use Rattle.verifier.specs.Notes.{VerifierState}
 use Rattle.promise.specs.Runs.{Request, closed, moves, Shaped, after, granted}
 use Rattle.promise.specs.Ledgers.{Open, AlwaysLedger}
 use Rattle.promise.specs.Ends.{VerifierOpening, Judging, verifierEnd, HostOpening, Answering, hostEnd}
-use Rattle.promise.specs.Claims.{Entry, trueCount, claimsFalsely, falseDegrees}
-use Rattle.promise.specs.Sealed.{SealedVerifier, SealedHost, hostGives, judgings, entryOf, ListedRun, Fooled, HonestAnswer}
+use Rattle.promise.specs.Claims.{Entry, trueCount, FalseClaim, falseDegrees}
+use Rattle.promise.specs.Sealed.{SealedHost, hostGives, judgings, entryOf, ListedRun, Fooled, HonestAnswer}
 
 -- the sheet of a lawful question never is longer
 abbrev pub LongPaper : List ℕ → Type 0
@@ -35,8 +33,8 @@ module _ {K : Type 0} (F : FieldModel K) where
       → (tray : List K) → suc (q .degree h) + v ≤ length tray → (paper : List ℕ) → LongPaper paper
       → HonestAnswer F h v ms q tray paper (hostGives F h v ms run q tray paper)
 
-  -- moves and sheets are fixed first: different points at which some listed sheet with a false claim is accepted are then no more than
-  -- the degrees of the falsely claiming listed sheets' questions, added
+  -- moves and sheets are fixed first: different points, at each of which some listed sheet with a false claim is accepted, are then no more than
+  -- the degrees of the questions of the listed sheets with a false claim, added
   abbrev pub FewPoints : Type 0
   FewPoints =
       (h v : ℕ) (ms : List Move) (es : List (Entry K)) → Each (λ e. LawfulQuestion F (e .question)) es
@@ -46,7 +44,7 @@ module _ {K : Type 0} (F : FieldModel K) where
   abbrev pub OthersTrue : Type 0
   OthersTrue =
       (h v : ℕ) (ms : List Move) (es : List (Entry K)) → Each (λ e. LawfulQuestion F (e .question)) es → (r : K) (judges : ListedRun F h v ms es r)
-      → Each (λ g. (c : ℤ) → g .1 .answer ≡ Ok c → claimsFalsely F h v ms (entryOf (g .0)) ≡ false → c ≡ trueCount F h v ms (g .0 .question)) (judgings F h v ms (judges .run))
+      → Each (λ g. (c : ℤ) → g .1 .answer ≡ Ok c → ¬ FalseClaim F h v ms (entryOf (g .0)) → c ≡ trueCount F h v ms (g .0 .question)) (judgings F h v ms (judges .run))
 
   -- after every request the box's bank begins with the low-degree extensions of its ledger's counts at its point
   abbrev pub VerifierSums : Type 0
@@ -71,7 +69,3 @@ module _ {K : Type 0} (F : FieldModel K) where
     pub host-ledger : AlwaysLedger (hostEnd F) (F .limit)
     pub verifier-sums : VerifierSums
     pub host-counts : HostCounts
-
--- where a sheet's text fits the paper
-abbrev pub Promise : {K : Type 0} → FieldModel K → Type 0
-Promise F = TextFits F → Promised F

@@ -1,6 +1,5 @@
 -- Runs that end with a sealed box or host, the sheets that a box judges in one, and what an honest host gives. Assumes nothing.
 use mathlib.Core.Path.{_≡_}
-use mathlib.Core.Bool.{true}
 use mathlib.Core.List.{List, _++_}
 use mathlib.Core.Option.{some}
 use Prim.Native.Nat.{ℕ, suc, _+_, _≤_}
@@ -15,13 +14,13 @@ use Rattle.polynomial.specs.Interpolation.{node}
 use Rattle.polynomial.specs.Columns.{columns}
 use Rattle.question.specs.Question.{QuestionModel}
 use Rattle.protocol.specs.Asking.{honest}
-use Rattle.host.specs.Answering.{Answered, trayFilled}
+use Rattle.host.specs.Answering.{Answered}
 use Rattle.host.specs.Notes.{HostState}
 use Rattle.verifier.specs.Judging.{Judgement}
 use Rattle.verifier.specs.Notes.{VerifierState}
 use Rattle.promise.specs.Runs.{Request, closed, sealed, moves, Shaped, after, granted, replies}
 use Rattle.promise.specs.Ends.{VerifierOpening, Judging, verifierEnd, HostOpening, Answering, hostEnd}
-use Rattle.promise.specs.Claims.{Entry, trueCount, claimsFalsely}
+use Rattle.promise.specs.Claims.{Entry, trueCount, FalseClaim}
 
 -- the sheet of a judging, with its question
 abbrev pub entryOf : {K : Type 0} → Judging K → Entry K
@@ -57,7 +56,7 @@ module _ {K : Type 0} (F : FieldModel K) (h v : ℕ) (ms : List Move) where
   -- a point at which some such run accepts a listed sheet with a false claim
   pub record Fooled (es : List (Entry K)) (r : K) : Type 0 where
     pub judges : ListedRun es r
-    pub accepts : Any (λ g. (c : ℤ) × (g .1 .answer ≡ Ok c) × (claimsFalsely F h v ms (entryOf (g .0)) ≡ true)) (judgings (judges .run))
+    pub accepts : Any (λ g. (c : ℤ) × (g .1 .answer ≡ Ok c) × FalseClaim F h v ms (entryOf (g .0))) (judgings (judges .run))
 
   -- a run of a host on h rows and v columns, told the moves ms, and sealed at its end
   pub record SealedHost : Type 0 where
@@ -83,4 +82,4 @@ module _ {K : Type 0} (F : FieldModel K) (h v : ℕ) (ms : List Move) where
     pub inside : size ≤ length paper
     pub values : given .tray ≡ honest F h v q (ledger h v (F .limit) ms .counts) ++ (columns F h v (ledger h v (F .limit) ms .counts) (node F (q .degree h)) ++ drop (suc (q .degree h) + v) tray)
     pub rest : drop size (given .paper) ≡ drop size paper
-    pub accepted : (r : K) (run : SealedVerifier r) (long : List K) → suc (q .degree h) ≤ length long → verifierGives run q (take size (given .paper)) long .answer ≡ Ok (trueCount F h v ms q)
+    pub accepted : (r : K) (box : SealedVerifier r) (tray′ : List K) → suc (q .degree h) ≤ length tray′ → verifierGives box q (take size (given .paper)) tray′ .answer ≡ Ok (trueCount F h v ms q)

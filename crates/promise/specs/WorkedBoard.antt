@@ -1,6 +1,5 @@
 -- A board of two rows and eight columns, worked out over the residues modulo 65,537: the promise's bound is reached on it. Assumes nothing.
 use mathlib.Core.Path.{_≡_}
-use mathlib.Core.Bool.{true}
 use mathlib.Core.List.{List, [], _∷_}
 use Prim.Native.Nat.{ℕ}
 use lib.Dec.{lit<}
@@ -14,7 +13,7 @@ use Rattle.polynomial.specs.Lists.{Each, Distinct}
 use Rattle.polynomial.specs.Interpolation.{node}
 use Rattle.question.specs.Question.{LawfulQuestion}
 use Rattle.question.specs.SquareSums.{squaresQuestion}
-use Rattle.promise.specs.Claims.{Entry, claimsFalsely, falseDegrees}
+use Rattle.promise.specs.Claims.{Entry, FalseClaim, falseDegrees}
 use Rattle.promise.specs.Sealed.{Fooled}
 
 -- the residues modulo 65,537, with the limit 256
@@ -45,18 +44,18 @@ claims13 =
     ∷ 40 ∷ 97 ∷ 116 ∷ 32 ∷ 50 ∷ 32 ∷ 40 ∷ 49 ∷ 55 ∷ 32 ∷ 48 ∷ 41 ∷ 41 ∷ 10
     ∷ 40 ∷ 101 ∷ 110 ∷ 100 ∷ 41 ∷ 10 ∷ []
 
--- under the question about squares
-abbrev pub listed13 : List (Entry (Residue 65537))
-listed13 = record { question = squaresQuestion residues; sheet = claims13 } ∷ []
+-- judged under the question about squares
+abbrev pub entry13 : Entry (Residue 65537)
+entry13 = record { question = squaresQuestion residues; sheet = claims13 }
 
 -- the points 0 and 2
 abbrev pub points : List (Residue 65537)
 points = node residues 0 ∷ node residues 2 ∷ []
 
--- the sheet's claim is false, boxes are fooled by it at 0 and at 2, and the promise's bound for it is 2: no smaller one holds
+-- the sheet's claim is false, boxes accept it at 0 and at 2, and the promise's bound for it alone is 2: no smaller one would hold
 pub record BoundReached : Type 0 where
-  pub lawful : Each (λ e. LawfulQuestion residues (e .question)) listed13
-  pub false-claim : Each (λ e. claimsFalsely residues 2 8 told e ≡ true) listed13
+  pub lawful : LawfulQuestion residues (entry13 .question)
+  pub false-claim : FalseClaim residues 2 8 told entry13
   pub different : Distinct points
-  pub fooled : Each (Fooled residues 2 8 told listed13) points
-  pub bound : falseDegrees residues 2 8 told listed13 ≡ length points
+  pub fooled : Each (Fooled residues 2 8 told (entry13 ∷ [])) points
+  pub bound : falseDegrees residues 2 8 told (entry13 ∷ []) ≡ length points

@@ -1,13 +1,13 @@
 // What a host and a box promise together, over every lawful field. Each contract is one theorem.
-ghost use Rattle.promise.specs.Adequacy.{EveryListRuns, GrantedAnywhere, TestsFalseClaims, NoneOnOneRow};
+ghost use Rattle.promise.specs.Adequacy.{EveryListRuns, SealedRuns, GrantedAnywhere, TestsFalseClaims, NoneOnOneRow};
 ghost use Rattle.promise.specs.Counts.{ValuesAgainstCounts};
-ghost use Rattle.promise.specs.Promise.{Promise};
+ghost use Rattle.promise.specs.Promise.{Promised};
 ghost use Rattle.promise.specs.WorkedBoard.{BoundReached};
 use field::Field;
 
 // Honest sheets are accepted at every point, false claims at few, and both ends keep to the ledger.
 pub fn the_whole_promise<F: Field>() -> u8
-    ensures { λ _. ⌜ Promise (F·Field .model) ⌝ }
+    ensures { λ _. ⌜ Promised (F·Field .model) ⌝ }
 {
     0
 }
@@ -22,6 +22,13 @@ pub fn values_against_counts<F: Field>() -> u8
 // Every list of requests of the form has exactly one run, and no other list has any.
 pub fn every_list_has_one_run<F: Field>() -> u8
     ensures { λ _. ⌜ EveryListRuns (F·Field .model) ⌝ }
+{
+    0
+}
+
+// On every allowed grid, for all moves and at every point, both ends have a run that ends sealed.
+pub fn sealed_runs_exist<F: Field>() -> u8
+    ensures { λ _. ⌜ SealedRuns (F·Field .model) ⌝ }
 {
     0
 }

@@ -1,9 +1,6 @@
 pub mod Grids
 pub mod Bounds
 pub mod Tallies
-pub mod Rules
-pub mod Ranges
 pub mod CellsLaw
 pub mod GoodsLaw
 pub mod SquaresLaw
-pub mod SeasonLaw

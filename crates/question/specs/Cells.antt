@@ -18,11 +18,6 @@ abbrev pub cellsTally : List ℕ → List ℤ → ℤ
 cellsTally [] fs = pos 0
 cellsTally (i ∷ is) fs = getD fs i (pos 0) +ℤ cellsTally is fs
 
--- the counts of a list, added
-abbrev pub countsSum : List ℤ → ℤ
-countsSum [] = pos 0
-countsSum (f ∷ fs) = f +ℤ countsSum fs
-
 -- the cells from a to b
 abbrev pub cellsBetween : ℕ → ℕ → List ℕ
 cellsBetween a b = listed a (suc b - a) (λ i. i)

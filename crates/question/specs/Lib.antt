@@ -2,5 +2,4 @@ pub mod Question
 pub mod Cells
 pub mod GoodsSums
 pub mod SquareSums
-pub mod Seasons
 pub mod Theorems

@@ -7,12 +7,10 @@ use Rattle.polynomial.specs.Lists.{Each, Distinct}
 use Rattle.question.specs.declared.outcome.Fit.{Fit}
 use Rattle.question.specs.declared.outcome.Fit.the-variants as fit
 use Rattle.question.specs.declared.outcome.Tag.{Tag}
-use Rattle.question.specs.declared.season.Season.{Season}
 use Rattle.question.specs.Question.{SmallTag, LawfulQuestion}
 use Rattle.question.specs.Cells.{cellsQuestion, cellQuestion, rangeQuestion}
 use Rattle.question.specs.GoodsSums.{goodsQuestion}
 use Rattle.question.specs.SquareSums.{squaresQuestion}
-use Rattle.question.specs.Seasons.{seasonQuestion}
 
 module _ {K : Type 0} (F : FieldModel K) where
   -- any list of cells, none twice, that fits only where all of them are on the grid
@@ -36,7 +34,3 @@ module _ {K : Type 0} (F : FieldModel K) where
   -- the squares of all counts
   abbrev pub SquaresLawful : Type 0
   SquaresLawful = LawfulQuestion F (squaresQuestion F)
-
-  -- any of the four whose numbers are in range
-  abbrev pub SeasonLawful : Type 0
-  SeasonLawful = (q : Season) → SmallTag (seasonQuestion F q .tag) → LawfulQuestion F (seasonQuestion F q)

@@ -1,18 +1,8 @@
-// Questions about a board's counts: one interface, and this season's four.
-mod cell;
-mod claims;
-mod goods;
+// Questions about a board's counts: one interface, what makes a question lawful, and the meanings of lawful questions.
 mod interface;
 mod outcome;
-mod range;
-mod season;
-mod squares;
 mod theorems;
 
-pub use cell::Cell;
-pub use cell::CellQuestion;
-pub use goods::Goods;
-pub use goods::GoodsQuestion;
 pub use interface::Question;
 pub use outcome::Fit;
 pub use outcome::FitDebug;
@@ -20,15 +10,8 @@ pub use outcome::FitPartialEq;
 pub use outcome::Tag;
 pub use outcome::TagDebug;
 pub use outcome::TagPartialEq;
-pub use range::Range;
-pub use range::RangeQuestion;
-pub use season::Season;
-pub use season::SeasonQuestion;
-pub use squares::Squares;
-pub use squares::SquaresQuestion;
 pub use theorems::cell_is_lawful;
 pub use theorems::distinct_cells_are_lawful;
 pub use theorems::goods_are_lawful;
 pub use theorems::range_is_lawful;
-pub use theorems::season_is_lawful;
 pub use theorems::squares_are_lawful;

@@ -1,5 +1,5 @@
 // The questions are lawful over every lawful field. Each contract is one theorem.
-ghost use Rattle.question.specs.Theorems.{CellsLawful, CellLawful, GoodsLawful, RangeLawful, SquaresLawful, SeasonLawful};
+ghost use Rattle.question.specs.Theorems.{CellsLawful, CellLawful, GoodsLawful, RangeLawful, SquaresLawful};
 use field::Field;
 
 // The sum of the counts at any cells of the grid, none twice.
@@ -29,13 +29,6 @@ pub fn range_is_lawful<F: Field>() -> u8
 
 pub fn squares_are_lawful<F: Field>() -> u8
     ensures { λ _. ⌜ SquaresLawful (F·Field .model) ⌝ }
-{
-    0
-}
-
-// Any of the four.
-pub fn season_is_lawful<F: Field>() -> u8
-    ensures { λ _. ⌜ SeasonLawful (F·Field .model) ⌝ }
 {
     0
 }

@@ -31,33 +31,18 @@ pub fn play(rt: &impl Print) -> Result<(), AnyError> {
     let moves = [
         Move { cell: 0, amount: 3 },
         Move { cell: 8, amount: 1 },
-        Move {
-            cell: 9,
-            amount: -2,
-        },
-        Move {
-            cell: 16,
-            amount: 1,
-        },
+        Move { cell: 9, amount: -2 },
+        Move { cell: 16, amount: 1 },
         Move { cell: 0, amount: 0 },
-        Move {
-            cell: 0,
-            amount: 257,
-        },
-        Move {
-            cell: 0,
-            amount: 256,
-        },
+        Move { cell: 0, amount: 257 },
+        Move { cell: 0, amount: 256 },
     ];
     let mut counts = [7i32; 16];
     let mut sums = [Mod65537Field::one(); 8];
     let mut count_bank = Bank::new(&mut counts);
     let mut sum_bank = Bank::new(&mut sums);
     let point = Mod65537Field::image(5);
-    println!(
-        rt,
-        "A game of 2 rows and 8 columns over the residues modulo 65537, secret point 5"
-    )?;
+    println!(rt, "A game of 2 rows and 8 columns over the residues modulo 65537, secret point 5")?;
     let Ok(mut host) = host::Listening::<Mod65537>::open(2, 8, &mut count_bank) else {
         return Err("the host did not open".into());
     };

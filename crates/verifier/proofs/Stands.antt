@@ -57,9 +57,9 @@ module _ {K : Type 0} {F : FieldModel K} (L : LawfulField F) where
   columns-zeros : (h v n : ℕ) (X : K) → columns F h v (replicate n (pos 0)) X ≡ replicate v (F .zero)
   columns-zeros h v n X =
       listed-cong 0 v _ (λ y. F .zero)
-      (λ y a b.
-      sum-cong L 0 h _ (λ x. F .zero) (λ x c d. ap (λ z. F .mul (F .image z) (chi F h x X)) (getD-zeros n (x * v + y)) ∙ ap (λ w. F .mul w (chi F h x X)) (L .images .of-zero) ∙ zero-mul (L .ring) _)
-      ∙ sum-zeros L 0 h)
+        (λ y a b.
+          sum-cong L 0 h _ (λ x. F .zero) (λ x c d. ap (λ z. F .mul (F .image z) (chi F h x X)) (getD-zeros n (x * v + y)) ∙ ap (λ w. F .mul w (chi F h x X)) (L .images .of-zero) ∙ zero-mul (L .ring) _)
+          ∙ sum-zeros L 0 h)
       ∙ listed-same 0 v (F .zero)
 
   module _ (h v : ℕ) (r : K) where

@@ -29,14 +29,7 @@ pub(crate) fn judge_cells<F: Field, Q: Question<F>>(
     }
     let degree = suited_degree(question, grid)? as usize;
     let claim = read_sheet(sheet, &terms_of(question, grid), tray)?;
-    let found = weigh(
-        question,
-        grid,
-        point,
-        &cells[0..width],
-        claim,
-        &tray[0..degree + 1],
-    );
+    let found = weigh(question, grid, point, &cells[0..width], claim, &tray[0..degree + 1]);
     if found.is_err() {
         fill_cells(tray, degree + 1, F::zero());
     }

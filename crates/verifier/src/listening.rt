@@ -38,12 +38,7 @@ fn add_share<F: Field>(bank: &mut Bank<'_, F>, grid: Grid, point: F, m: Move) ->
 
 impl<F: Field> Listening<F> {
     // Opens a box on a board at a secret point, with a cell of the bank for each column, all zero.
-    pub fn open(
-        rows: u64,
-        columns: u64,
-        point: F,
-        bank: &mut Bank<'_, F>,
-    ) -> Result<Listening<F>, Refusal>
+    pub fn open(rows: u64, columns: u64, point: F, bank: &mut Bank<'_, F>) -> Result<Listening<F>, Refusal>
         ensures answer { λ r. ⌜ granted r ≡ verifierOpenAnswer (F·Field .model) rows columns (now (now (bank .entry) .cells)) ⌝ }
         ensures opened { λ r. ⌜ Opened rows columns point r ⌝ }
         ensures bank { λ _. ⌜ now (now (bank .exit) .cells) ≡ verifierOpenBank (F·Field .model) rows columns (now (now (bank .entry) .cells)) ⌝ }

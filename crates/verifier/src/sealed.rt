@@ -29,13 +29,6 @@ impl<F: Field> Sealed<F> {
         ensures answer { λ r. ⌜ r ≡ judged (F·Field .model) (standing (now (self .entry) .book) .rows) (standing (now (self .entry) .book) .columns) (now (self .entry) .point) (now (now (bank .entry) .cells)) (meaning (now (question .entry))) (now (sheet .entry)) (now (tray .entry)) .answer ⌝ }
         ensures tray { λ _. ⌜ now (tray .exit) ≡ judged (F·Field .model) (standing (now (self .entry) .book) .rows) (standing (now (self .entry) .book) .columns) (now (self .entry) .point) (now (now (bank .entry) .cells)) (meaning (now (question .entry))) (now (sheet .entry)) (now (tray .entry)) .tray ⌝ }
     {
-        judge_cells(
-            self.book.grid(),
-            self.point,
-            bank.cells(),
-            question,
-            sheet,
-            tray,
-        )
+        judge_cells(self.book.grid(), self.point, bank.cells(), question, sheet, tray)
     }
 }

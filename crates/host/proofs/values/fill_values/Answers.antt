@@ -35,7 +35,7 @@ loop-j-again g c =
     let v-is : at + w - at ≡ v = omega arith in
     let part : length (take (at + w - at) (drop at tray)) ≡ v = omega (arith, length-take (at + w - at) (drop at tray), length-drop at tray, inv .0) in
     let now-is : ys ≡ columns F h v fs (node F j) =
-    c .fill-columns .ensures ∙ ap₂ (λ k n. columns F k n fs (c .node-at-point .result)) (c .rows .ensures) part ∙ ap (columns F h v fs) (c .node-at-point .ensures) in
+        c .fill-columns .ensures ∙ ap₂ (λ k n. columns F k n fs (c .node-at-point .result)) (c .rows .ensures) part ∙ ap (columns F h v fs) (c .node-at-point .ensures) in
     let size : length ys ≡ v = ap length now-is ∙ length-listed 0 v _ in
     let seen = between-putMid at (at + w - at) tray ys (at + w) (omega (arith, inv .0)) (size ∙ sym v-is) in
     let value : a ≡ q .rule h v (node F j) (columns F h v fs (node F j)) = c .rule-value .ensures ∙ ap₂ (q .rule h v) (c .node-at-point .ensures) (seen ∙ now-is) in

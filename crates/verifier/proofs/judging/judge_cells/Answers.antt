@@ -66,7 +66,7 @@ returns-then-is-err g c =
     let long : v ≤ length cells = omega (arith, c .if-cells-width .left, c .columns-width .ensures) in
     let w = read F h v (c .args .point) cells q (c .args .sheet .now) (c .args .tray .now) long suits claim told in
     let left : after ≡ trayAfter F (termsOf q h v) (c .args .sheet .now) (c .args .tray .now) =
-    c .in-Continue-claim .ensures tt .tray ∙ ap (λ t. trayAfter F t (c .args .sheet .now) (c .args .tray .now)) (c .terms-of .ensures) in
+        c .in-Continue-claim .ensures tt .tray ∙ ap (λ t. trayAfter F t (c .args .sheet .now) (c .args .tray .now)) (c .terms-of .ensures) in
     let kept = c .read-sheet .kept .tray in
     let fits : SFits w64 claim = search needs in
     let width : c .columns-width .result - 0 ≡ v = omega (arith, c .columns-width .ensures) in
@@ -74,9 +74,9 @@ returns-then-is-err g c =
     let columns = ap (λ n. take n cells) width in
     let values = ap (λ n. take n after) count ∙ take-values F h v (c .args .point) cells q (c .args .sheet .now) (c .args .tray .now) long claim w after left kept in
     let found : c .weigh-found .result ≡ weighed F h v (c .args .point) (take v cells) q claim (w .values) =
-    c .weigh-found .ensures
-    ∙ ap₂ (λ cs z. weighed F h v (c .args .point) cs q z (take (c .in-Continue-degree .field-0 + 1 - 0) after)) columns (toZ-ofZ w64 claim fits)
-    ∙ ap (weighed F h v (c .args .point) (take v cells) q claim) values in
+        c .weigh-found .ensures
+        ∙ ap₂ (λ cs z. weighed F h v (c .args .point) cs q z (take (c .in-Continue-degree .field-0 + 1 - 0) after)) columns (toZ-ofZ w64 claim fits)
+        ∙ ap (weighed F h v (c .args .point) (take v cells) q claim) values in
     let refused : isErr (weighed F h v (c .args .point) (take v cells) q claim (w .values)) ≡ true = ap isErr (sym found) ∙ sym (c .is-err .ensures .value) ∙ c .if-is-err .taken in
     let count′ : c .in-Continue-degree .field-0 + 1 ≡ suc (q .degree h) = omega (arith, c .in-Continue-degree .ensures tt .degree) in
     record {
@@ -100,7 +100,7 @@ returns-else-is-err g c =
     let long : v ≤ length cells = omega (arith, c .if-cells-width .left, c .columns-width .ensures) in
     let w = read F h v (c .args .point) cells q (c .args .sheet .now) (c .args .tray .now) long suits claim told in
     let left : after ≡ trayAfter F (termsOf q h v) (c .args .sheet .now) (c .args .tray .now) =
-    c .in-Continue-claim .ensures tt .tray ∙ ap (λ t. trayAfter F t (c .args .sheet .now) (c .args .tray .now)) (c .terms-of .ensures) in
+        c .in-Continue-claim .ensures tt .tray ∙ ap (λ t. trayAfter F t (c .args .sheet .now) (c .args .tray .now)) (c .terms-of .ensures) in
     let kept = c .read-sheet .kept .tray in
     let fits : SFits w64 claim = search needs in
     let width : c .columns-width .result - 0 ≡ v = omega (arith, c .columns-width .ensures) in
@@ -108,9 +108,9 @@ returns-else-is-err g c =
     let columns = ap (λ n. take n cells) width in
     let values = ap (λ n. take n after) count ∙ take-values F h v (c .args .point) cells q (c .args .sheet .now) (c .args .tray .now) long claim w after left kept in
     let found : c .weigh-found .result ≡ weighed F h v (c .args .point) (take v cells) q claim (w .values) =
-    c .weigh-found .ensures
-    ∙ ap₂ (λ cs z. weighed F h v (c .args .point) cs q z (take (c .in-Continue-degree .field-0 + 1 - 0) after)) columns (toZ-ofZ w64 claim fits)
-    ∙ ap (weighed F h v (c .args .point) (take v cells) q claim) values in
+        c .weigh-found .ensures
+        ∙ ap₂ (λ cs z. weighed F h v (c .args .point) cs q z (take (c .in-Continue-degree .field-0 + 1 - 0) after)) columns (toZ-ofZ w64 claim fits)
+        ∙ ap (weighed F h v (c .args .point) (take v cells) q claim) values in
     let accepted : isErr (weighed F h v (c .args .point) (take v cells) q claim (w .values)) ≡ false = ap isErr (sym found) ∙ sym (c .is-err .ensures .value) ∙ c .if-is-err .left in
     record {
       answer = found ∙ sym (ap (λ j. j .answer) (w .is));

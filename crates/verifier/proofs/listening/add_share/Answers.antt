@@ -37,11 +37,11 @@ returns-in-Some g c =
     let wide : SFits w64 (c .args .m .amount) = search needs in
     let narrow : SFits w32 (c .args .m .amount) = omega (arith, ints) in
     let amount : toZ w32 (ofZ w32 (toZ w64 (ofZ w64 (c .args .m .amount)))) ≡ c .args .m .amount =
-    ap (λ z. toZ w32 (ofZ w32 z)) (toZ-ofZ w64 (c .args .m .amount) wide) ∙ toZ-ofZ w32 (c .args .m .amount) narrow in
+        ap (λ z. toZ w32 (ofZ w32 z)) (toZ-ofZ w64 (c .args .m .amount) wide) ∙ toZ-ofZ w32 (c .args .m .amount) narrow in
     let share : c .product-share .result ≡ moveShare F (c .args .grid .rows) (c .args .grid .columns) (c .args .point) (c .args .m) =
-    c .product-share .ensures
-    ∙ ap₂ (F .mul) (c .image .ensures ∙ ap (F .image) amount)
-    (c .basis-at .ensures ∙ ap₂ (λ h x. chi F h x (c .args .point)) (c .rows .ensures) (c .row-of-row .ensures)) in
+        c .product-share .ensures
+        ∙ ap₂ (F .mul) (c .image .ensures ∙ ap (F .image) amount)
+          (c .basis-at .ensures ∙ ap₂ (λ h x. chi F h x (c .args .point)) (c .rows .ensures) (c .row-of-row .ensures)) in
     let granted = lt-ltb _ _ inside in
     record {
       answer = c .put .ensures .answer ∙ ap (reached bank) column-is ∙ ap (λ b. cond b (Ok tt) (Err BankShort)) granted;

@@ -1,0 +1,4 @@
+pub mod Tallies
+pub mod Rules
+pub mod Ranges
+pub mod MixtureLaw
