@@ -1,13 +1,18 @@
 // The product and the reference side by side: generated games, questions and sheets, and every answer compared.
+mod answers;
 mod arithmetic;
 mod convert;
 mod damage;
 mod dice;
 mod falsehood;
+mod games;
 mod hosts;
+mod inquiry;
 mod judgements;
+mod meanings;
 mod memory;
 mod outcome;
+mod questions;
 mod report;
 mod sealed;
 mod stated;
@@ -17,6 +22,8 @@ mod writings;
 
 pub use arithmetic::compare_arithmetic;
 pub use dice::Dice;
+pub use games::Plan;
+pub use games::play;
 pub use hosts::HostPair;
 pub use hosts::open_hosts;
 pub use outcome::Outcome;
