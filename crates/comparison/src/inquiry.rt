@@ -34,7 +34,8 @@ fn judge_sheet<F: Field, Q: Question<F>>(
         enough.saturating_add(table.dice.below(3))
     };
     compare_reading(table, sealed, question, ask, sheet, room)?;
-    compare_judgement(table, sealed, bank, question, ask, sheet, room)
+    compare_judgement(table, sealed, bank, question, ask, sheet, room)?;
+    Ok(())
 }
 
 // Judges sheets that are damaged, respaced or false.

@@ -76,7 +76,7 @@ pub fn compare_judgement<F: Field, Q: Question<F>>(
     ask: Ask,
     sheet: &[u8],
     room: u64,
-) -> Result<(), AllocError> {
+) -> Result<Outcome, AllocError> {
     let heap = table.heap;
     let field = table.field;
     let mut plain_tray = any_elements(heap, &mut table.dice, field, room)?;
@@ -95,13 +95,11 @@ pub fn compare_judgement<F: Field, Q: Question<F>>(
         sheet,
         plain_tray.as_mut_slice(),
     );
-    table.report.outcome(
-        Call::Judge,
-        "a judgement",
-        claim_found(judged),
-        claim_wanted(plain),
-    );
+    let found = claim_found(judged);
+    table
+        .report
+        .outcome(Call::Judge, "a judgement", found, claim_wanted(plain));
     let same = same_elements(tray.as_slice(), plain_tray.as_slice());
     table.report.holds("the tray after a judgement", same);
-    Ok(())
+    Ok(found)
 }
