@@ -104,9 +104,9 @@ impl Report {
         self.differing
     }
 
-    // The first of them.
-    pub fn differences(&self) -> &[Difference] {
-        self.kept.as_slice()
+    // The difference with this number, from 0, if it is kept.
+    pub fn difference(&self, i: usize) -> Option<Difference> {
+        self.kept.get(i).copied()
     }
 
     // How often a call came to a refusal's number, or to 0.

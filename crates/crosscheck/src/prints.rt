@@ -1,5 +1,6 @@
 // The report as text.
 use comparison::Call;
+use comparison::Difference;
 use comparison::Report;
 use std::error::AnyError;
 use std::io;
@@ -85,16 +86,23 @@ fn print_missing(rt: &impl Print, report: &Report) -> Result<(), AnyError> {
     Ok(())
 }
 
+fn print_difference(rt: &impl Print, difference: Difference) -> io::Result<()> {
+    let game = difference.game;
+    let what = difference.what;
+    let found = difference.found;
+    let wanted = difference.wanted;
+    println!(
+        rt,
+        "game {game}: {what}: the product has {found}, the reference {wanted}"
+    )
+}
+
+// The first differences, and how many there are.
 fn print_differences(rt: &impl Print, report: &Report) -> io::Result<()> {
-    for difference in report.differences() {
-        let game = difference.game;
-        let what = difference.what;
-        let found = difference.found;
-        let wanted = difference.wanted;
-        println!(
-            rt,
-            "game {game}: {what}: the product has {found}, the reference {wanted}"
-        )?;
+    for i in 0..20 {
+        if let Some(difference) = report.difference(i) {
+            print_difference(rt, difference)?;
+        }
     }
     let games = report.games();
     let compared = report.compared();
