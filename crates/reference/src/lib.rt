@@ -1,0 +1,45 @@
+// The whole product a second time, naively: every rule straight from its words, in plain numbers, pairs and vectors.
+// It shares no code with the product, and the program `crosscheck` compares the two.
+mod answering;
+mod arithmetic;
+mod ask;
+mod ends;
+mod interpolation;
+mod judging;
+mod ledger;
+mod pieces;
+mod reading;
+mod standing;
+mod stop;
+mod text;
+mod wants;
+
+pub use answering::Answered;
+pub use answering::answer;
+pub use arithmetic::Arithmetic;
+pub use arithmetic::Element;
+pub use arithmetic::ElementDebug;
+pub use arithmetic::ElementPartialEq;
+pub use ask::Ask;
+pub use ask::AskDebug;
+pub use ask::AskPartialEq;
+pub use ends::note_at_host;
+pub use ends::note_at_verifier;
+pub use ends::open_host;
+pub use ends::open_verifier;
+pub use interpolation::basis;
+pub use interpolation::columns_at;
+pub use interpolation::value_at;
+pub use judging::judge;
+pub use ledger::Ledger;
+pub use reading::Sheet;
+pub use reading::read_into;
+pub use reading::read_sheet;
+pub use standing::Standing;
+pub use stop::Stop;
+pub use stop::StopDebug;
+pub use stop::StopFromAlloc;
+pub use stop::StopFromRefused;
+pub use stop::StopPartialEq;
+pub use text::lay_sheet;
+pub use text::write_sheet;
