@@ -9,7 +9,7 @@ use Rattle.field.specs.Field.{FieldModel, LawfulField}
 use Rattle.polynomial.specs.Polynomials.{sub}
 use Rattle.polynomial.specs.Interpolation.{except, node, chi}
 use Rattle.polynomial.specs.OnePass.{lead, nextWeight, pass, OnePass}
-use Rattle.field.proofs.Solver.{sides, solve, zero-mul, zero-add, one-mul, neg-zero}
+use Rattle.field.proofs.Solver.{sides, solve, mul-left, zero-mul, zero-add, one-mul, neg-zero}
 use Rattle.polynomial.proofs.Nodes.{node-add, sub-nonzero}
 use Rattle.polynomial.proofs.Excepts.{eqb-cases, except-same, except-other}
 use Rattle.polynomial.proofs.Lagrange.{mixed, eval-blend}
@@ -72,14 +72,14 @@ module _ {K : Type 0} {F : FieldModel K} (L : LawfulField F) where
       other (λ k. sub F X (node F k)) (j + suc m) j (omega arith)
       ∙ ap₂ (λ a n. F .mul (sub F X (node F a)) (skip F n j X)) e′ e
       ∙ ap (F .mul (sub F X (node F (suc j + m)))) (skip-span j m X)
-      ∙ solve (L .ring) (sub F X (node F (suc j + m)) ∷ full F j X ∷ span F (suc j) m X ∷ []) (search sides depth 30) refl
+      ∙ mul-left (L .ring) (sub F X (node F (suc j + m))) (full F j X) (span F (suc j) m X)
 
   span-front : (j m : ℕ) (X : K) → span F j (suc m) X ≡ F .mul (sub F X (node F j)) (span F (suc j) m X)
   span-front j zero X = let e : j + zero ≡ j = omega arith in ap (λ n. F .mul (sub F X (node F n)) (F .one)) e
   span-front j (suc m) X =
       let e : j + suc m ≡ suc j + m = omega arith in
       ap₂ (λ n w. F .mul (sub F X (node F n)) w) e (span-front j m X)
-      ∙ solve (L .ring) (sub F X (node F (suc j + m)) ∷ sub F X (node F j) ∷ span F (suc j) m X ∷ []) (search sides depth 30) refl
+      ∙ mul-left (L .ring) (sub F X (node F (suc j + m))) (sub F X (node F j)) (span F (suc j) m X)
 
   -- ---- the weights
   node-suc : (n : ℕ) → n ≤ 65536 → node F (suc n) ≡ F .add (node F n) (node F 1)
