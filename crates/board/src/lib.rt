@@ -1,4 +1,6 @@
 // The board: grids, moves, banks, books, and the refusals of the whole product.
+#![tactic(auto)]
+
 ghost use Rattle.board.specs.Ledger.{NoTrace};
 
 mod bank;

@@ -1,4 +1,6 @@
 // The product and the reference side by side: generated games, questions and sheets, and every answer compared.
+#![tactic(auto)]
+
 mod answers;
 mod arithmetic;
 mod convert;

@@ -1,5 +1,7 @@
 // Plays the worked cases and thousands of generated games against the product and against the reference, compares
 // everything that both say and leave behind, and prints what was compared. Any difference fails the run.
+#![tactic(auto)]
+
 use anyhow::anyhow;
 
 mod fields;

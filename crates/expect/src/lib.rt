@@ -1,4 +1,6 @@
 // What a form of the format has next, and the reader against it.
+#![tactic(auto)]
+
 mod due;
 mod expect;
 mod keyword;

@@ -1,4 +1,6 @@
 // Fields behind one interface: what code above may use of a field, and the laws that every field keeps.
+#![tactic(auto)]
+
 ghost use Rattle.std.specs.Prelude.{◌≡◌, ◌≤◌, pos};
 ghost use Rattle.field.specs.Field.{FieldModel, LawfulField, InRange, PartsOf, NoSquare, LawfulBase, same, inverse};
 

@@ -1,4 +1,6 @@
 // Tests of the four fields, against values computed by another program.
+#![tactic(auto)]
+
 #[cfg(test)]
 mod cases;
 #[cfg(test)]

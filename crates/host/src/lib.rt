@@ -1,4 +1,6 @@
 // The host: the prover of the product. It counts moves, and answers questions about the counts with sheets.
+#![tactic(auto)]
+
 ghost use Rattle.host.specs.Notes.{HostKeepsLedger};
 
 mod answering;

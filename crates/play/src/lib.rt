@@ -1,4 +1,6 @@
 // A whole trial, and with it the promise that the two ends make.
+#![tactic(auto)]
+
 mod telling;
 mod trial;
 

@@ -1,4 +1,6 @@
 // Tests of answers and judgements on worked boards.
+#![tactic(auto)]
+
 #[cfg(test)]
 mod answers;
 #[cfg(test)]

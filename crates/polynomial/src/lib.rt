@@ -1,4 +1,6 @@
 // Polynomials over any field: the Lagrange basis and interpolation at a point, and what is true of them.
+#![tactic(auto)]
+
 mod basis;
 mod interpolate;
 mod theorems;

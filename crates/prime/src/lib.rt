@@ -1,4 +1,6 @@
 // The two prime fields: residues modulo 65,537 and modulo 2,147,483,647.
+#![tactic(auto)]
+
 mod arithmetic;
 mod inversion;
 pub mod modulo_2147483647;

@@ -1,4 +1,6 @@
 // What a host and a box promise together, over every lawful field. Each contract is one theorem.
+#![tactic(auto)]
+
 ghost use Rattle.promise.specs.Adequacy.{EveryListRuns, SealedRuns, GrantedAnywhere, TestsFalseClaims, NoneOnOneRow};
 ghost use Rattle.promise.specs.Counts.{ValuesAgainstCounts};
 ghost use Rattle.promise.specs.Promise.{Promised};

@@ -1,4 +1,6 @@
 // What host and box agree on when a question is asked of a grid.
+#![tactic(auto)]
+
 ghost use Rattle.std.specs.Prelude.{◌≡◌, ◌≤◌, IfOk};
 ghost use Rattle.board.specs.Books.{granted};
 ghost use Rattle.protocol.specs.Asking.{suit_answer, terms_of, claim_image};

@@ -1,4 +1,6 @@
 // Questions about a board's counts: one interface, what makes a question lawful, and the meanings of lawful questions.
+#![tactic(auto)]
+
 mod interface;
 mod outcome;
 mod theorems;

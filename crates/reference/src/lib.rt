@@ -1,5 +1,7 @@
 // The whole product a second time, naively: every rule straight from its words, in plain numbers, pairs and vectors.
 // It shares no code with the product, and the program `crosscheck` compares the two.
+#![tactic(auto)]
+
 mod answering;
 mod arithmetic;
 mod ask;

@@ -1,4 +1,6 @@
 // This season's four questions: one cell, one of the goods, a range of cells, the squares.
+#![tactic(auto)]
+
 mod cell;
 mod claims;
 mod goods;

@@ -1,4 +1,6 @@
 // Sheets: the grammar, and reading a sheet into a tray.
+#![tactic(auto)]
+
 mod lines;
 mod sheet;
 mod terms;

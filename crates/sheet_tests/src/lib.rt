@@ -1,4 +1,6 @@
 // Tests of the reading of sheets, against values that another reader computed.
+#![tactic(auto)]
+
 #[cfg(test)]
 mod cases;
 #[cfg(test)]

@@ -1,4 +1,6 @@
 // Tokens of a sheet's text, read one by one with their lines and places.
+#![tactic(auto)]
+
 mod reader;
 mod run;
 mod token;

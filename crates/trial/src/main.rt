@@ -1,4 +1,5 @@
 // Plays trials on a small board from the first move to the judged sheets, and prints a report.
+#![tactic(auto)]
 
 mod cheats;
 mod fields;

@@ -1,4 +1,6 @@
 // The box: the verifier of the product. It follows moves with one element for each column, and judges sheets at a secret point.
+#![tactic(auto)]
+
 ghost use Rattle.verifier.specs.Notes.{VerifierKeepsLedger};
 
 use field::Field;

@@ -1,4 +1,6 @@
 // One board, worked out.
+#![tactic(auto)]
+
 ghost use Rattle.worked.specs.Worked.{WorkedCases};
 
 // The definitions give the numbers of the worked board.

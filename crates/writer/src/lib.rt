@@ -1,4 +1,6 @@
 // Writing a sheet onto paper.
+#![tactic(auto)]
+
 mod laws;
 mod lines;
 mod mark;
