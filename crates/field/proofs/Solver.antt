@@ -267,10 +267,10 @@ module _ {K : Type 0} {F : FieldModel K} {env : List K} where
   r_one = record { expr = 𝟙; is = refl }
 
   abbrev pub r_add : {x y : K} → Read F env x → Read F env y → Read F env (F.add x y)
-  r_add r s = record { expr = (r.expr ⊕ s).expr; is = ap₂ F.add r.is s.is }
+  r_add r s = record { expr = r.expr ⊕ s.expr; is = ap₂ F.add r.is s.is }
 
   abbrev pub r_mul : {x y : K} → Read F env x → Read F env y → Read F env (F.mul x y)
-  r_mul r s = record { expr = (r.expr ⊗ s).expr; is = ap₂ F.mul r.is s.is }
+  r_mul r s = record { expr = r.expr ⊗ s.expr; is = ap₂ F.mul r.is s.is }
 
   abbrev pub r_neg : {x : K} → Read F env x → Read F env (F.neg x)
   r_neg r = record { expr = ⊖ r.expr; is = ap F.neg r.is }

@@ -16,16 +16,16 @@ overflow-mul-value c = let small = room c.loop-b.value c.loop-b.b-index c.loop-b
 
 pub loop-b-preserved : goal.loop-b-preserved
 loop-b-preserved c = (
-  each_next is_ascii_digit _ _ c.loop-b-test.true (sym c.if-not-is-ascii-digit.ensures.value) c.loop-b.invariant.0,
+  each_next is_ascii_digit _ _ c.loop-b-test.true (sym c.if-not-is_ascii_digit.ensures.value) c.loop-b.invariant.0,
   ap (λ d. value_after (c.loop-b.value * 10 + d) (drop (c.loop-b.b-index + 1) c.args.digits.now)) c.from.ensures ∙ sym (value_more c.loop-b.value _ _ c.loop-b-test.true) ∙ c.loop-b.invariant.1,
-  grown _ _ _ c.loop-b.invariant.2 (omega (arith, c.if-not-is-ascii-digit.ensures.cases)),
+  grown _ _ _ c.loop-b.invariant.2 (omega (arith, c.if-not-is_ascii_digit.ensures.cases)),
 )
 
 pub returns : goal.returns
 returns c = record {
   value =
       sym (ap (λ b. cond b (Some (value_after 0 c.args.digits.now)) None)
-      (made_of_yes is_ascii_digit 10 _ (omega (arith, false-eqb _ 0 c.if-is-empty.ensures)) c.if-digits-gt10.false (sym c.loop-b.invariant.0 ∙ each_end is_ascii_digit _ _ c.loop-b-test.false))
+      (made_of_yes is_ascii_digit 10 _ (omega (arith, false-eqb _ 0 c.if-is_empty.ensures)) c.if-digits-gt10.false (sym c.loop-b.invariant.0 ∙ each_end is_ascii_digit _ _ c.loop-b-test.false))
       ∙ ap Some (sym c.loop-b.invariant.1 ∙ value_end c.loop-b.value _ _ c.loop-b-test.false));
   small = room_all c.loop-b.value c.loop-b.b-index c.loop-b.invariant.2 (omega arith);
 }

@@ -8,8 +8,8 @@ returns-then-not-is-ascii-lowercase c =
     sym (made_of_no is_ascii_lowercase 8 _ _ c.loop-b-test.true (sym c.if-not-is-ascii-lowercase.ensures.value) c.loop-b.invariant)
 
 pub loop-b-preserved : goal.loop-b-preserved
-loop-b-preserved c = each_next is_ascii_lowercase _ _ c.loop-b-test.true (sym c.if-not-is-ascii-lowercase.ensures.value) c.loop-b.invariant
+loop-b-preserved c = each_next is_ascii_lowercase _ _ c.loop-b-test.true (sym c.if-not-is_ascii_lowercase.ensures.value) c.loop-b.invariant
 
 pub returns : goal.returns
 returns c =
-    sym (made_of_yes is_ascii_lowercase 8 _ (omega (arith, false-eqb _ 0 c.if-is-empty.ensures)) c.if-run-gt8.false (sym c.loop-b.invariant ∙ each_end is_ascii_lowercase _ _ c.loop-b-test.false))
+    sym (made_of_yes is_ascii_lowercase 8 _ (omega (arith, false-eqb _ 0 c.if-is_empty.ensures)) c.if-run-gt8.false (sym c.loop-b.invariant ∙ each_end is_ascii_lowercase _ _ c.loop-b-test.false))

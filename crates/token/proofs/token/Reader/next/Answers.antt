@@ -37,11 +37,11 @@ invariant-of-self c =
 pub returns : goal.returns
 returns c =
     let r = c.args.self.now in
-    let sp = c.leading-spaces-skipped.ensures in
-    let tok = c.token-at-token.ensures in
+    let sp = c.leading_spaces-skipped.ensures in
+    let tok = c.token_at-token.ensures in
     record {
-      token = token_is r.sheet.now r.cursor _ _ _ _ r.inside sp tok c.width.ensures c.line-ends.ensures;
+      token = token_is r.sheet.now r.cursor _ _ _ _ r.inside sp tok c.width.ensures c.line_ends.ensures;
       line = refl;
-      place = place_is r.sheet.now r.cursor _ _ _ _ r.inside sp tok c.width.ensures c.line-ends.ensures;
-      after = after_is r.sheet.now r.cursor _ _ _ _ r.inside sp tok c.width.ensures c.line-ends.ensures r.line;
+      place = place_is r.sheet.now r.cursor _ _ _ _ r.inside sp tok c.width.ensures c.line_ends.ensures;
+      after = after_is r.sheet.now r.cursor _ _ _ _ r.inside sp tok c.width.ensures c.line_ends.ensures r.line;
     }
