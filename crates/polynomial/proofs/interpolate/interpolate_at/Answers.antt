@@ -10,7 +10,7 @@ loop-j-preserved g c =
     let d = length c.args.values.now - 1 in
     elim c.if-j-d.branch [
       | then-j-d w ↦
-          let more = pass_step F d c.args.x c.args.values.now l.j c.index-values-j.result l.weight c.if-j-d.weight l.before l.all (omega arith) c.index-values-j.is (λ b. w.weight-is ∙ w.next-weight-weight.ensures) in
+          let more = pass_step F d c.args.x c.args.values.now l.j c.index-values-j.result l.weight c.if-j-d.weight l.before l.all (omega arith) c.index-values-j.is (λ b. w.weight-is ∙ w.next_weight-weight.ensures) in
           (omega arith, cc)
       | else-j-d w ↦
           let more = pass_step F d c.args.x c.args.values.now l.j c.index-values-j.result l.weight c.if-j-d.weight l.before l.all (omega arith) c.index-values-j.is (λ b. absurd (omega arith)) in

@@ -2,8 +2,8 @@ use Rattle.std.proofs.Common.{sym, arith, length-take-le, ltb-false}
 use Rattle.token.proofs.Runs.{by_run, run_le}
 use Rattle.token.proofs.reader.token_at.Goals as goal
 
-pub slice-bounds-classed-end : goal.slice-bounds-classed-end
-slice-bounds-classed-end c = sym (length-take-le _ c.args.bytes.now (omega (arith, run_le c.args.bytes.now)))
+pub slice_bounds-classed-end : goal.slice_bounds-classed-end
+slice_bounds-classed-end c = sym (length-take-le _ c.args.bytes.now (omega (arith, run_le c.args.bytes.now)))
 
-pub returns-in-default : goal.returns-in-default
-returns-in-default c = by_run c.args.bytes.now c.run-length.result _ (λ h. omega (arith, ltb-false)) (λ h. omega arith) (λ h. omega arith) (λ h. omega arith) c.run-length.ensures c.classed.ensures
+pub returns-in_default : goal.returns-in_default
+returns-in_default c = by_run c.args.bytes.now c.run_length.result _ (λ h. omega (arith, ltb-false)) (λ h. omega arith) (λ h. omega arith) (λ h. omega arith) c.run_length.ensures c.classed.ensures

@@ -4,15 +4,15 @@ use Rattle.token.specs.Tokens.{value_after}
 use Rattle.token.proofs.Runs.{made_of_no, made_of_yes, each_next, each_end, value_more, value_end, grown, room, room_all}
 use Rattle.token.proofs.run.digits_value.Goals as goal
 
-pub returns-then-not-is-ascii-digit : goal.returns-then-not-is-ascii-digit
-returns-then-not-is-ascii-digit c = record {
+pub returns-then-not-is_ascii_digit : goal.returns-then-not-is_ascii_digit
+returns-then-not-is_ascii_digit c = record {
   value = sym (ap (λ b. cond b (Some (value_after 0 c.args.digits.now)) None)
-      (made_of_no is_ascii_digit 10 _ _ c.loop-b-test.true (sym c.if-not-is-ascii-digit.ensures.value) c.loop-b.invariant.0));
+      (made_of_no is_ascii_digit 10 _ _ c.loop-b-test.true (sym c.if-not-is_ascii_digit.ensures.value) c.loop-b.invariant.0));
   small = tt;
 }
 
-pub overflow-mul-value : goal.overflow-mul-value
-overflow-mul-value c = let small = room c.loop-b.value c.loop-b.b-index c.loop-b.invariant.2 (omega arith) in omega arith
+pub overflow_mul-value : goal.overflow_mul-value
+overflow_mul-value c = let small = room c.loop-b.value c.loop-b.b-index c.loop-b.invariant.2 (omega arith) in omega arith
 
 pub loop-b-preserved : goal.loop-b-preserved
 loop-b-preserved c = (

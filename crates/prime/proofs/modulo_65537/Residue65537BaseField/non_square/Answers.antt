@@ -4,5 +4,5 @@ use Rattle.prime.proofs.modulo_65537.Residue65537BaseField.non_square.Goals as g
 
 pub returns : goal.returns
 returns c =
-    let is = c.of-small.ensures (lit< tt) in
+    let is = c.of_small.ensures (lit< tt) in
     record { value = is; none = λ x e. base_65537.no_square x (e ∙ is) }

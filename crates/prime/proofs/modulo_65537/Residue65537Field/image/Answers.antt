@@ -5,4 +5,4 @@ use Rattle.prime.specs.Residues.{residue_of}
 use Rattle.prime.proofs.modulo_65537.Residue65537Field.image.Goals as goal
 
 pub returns : goal.returns
-returns c = c.of-signed.ensures (lit< tt) ∙ ap (λ z. residue_of 65537 (lit< tt) (modulo 65537 z)) (to_z-of_z w32 _ c.ranges.n)
+returns c = c.of_signed.ensures (lit< tt) ∙ ap (λ z. residue_of 65537 (lit< tt) (modulo 65537 z)) (to_z-of_z w32 _ c.ranges.n)

@@ -8,14 +8,14 @@ use Rattle.prime.proofs.residue.Residue.inverted.Goals as goal
 pub loop-r1-init : goal.loop-r1-init
 loop-r1-init g c = (omega arith, omega arith, omega arith, omega arith, (suc c.args.self.value, omega arith, refl))
 
-pub overflow-mul-less : goal.overflow-mul-less
-overflow-mul-less g c =
+pub overflow_mul-less : goal.overflow_mul-less
+overflow_mul-less g c =
     let q : c.loop-r1.r0 / c.loop-r1.r1 ≤ c.loop-r1.r0 = div-le_self _ _ in
     let b : c.loop-r1.r0 / c.loop-r1.r1 * c.loop-r1.t1 ≤ 2147483647 * 2147483647 = mul-le-mul {n₂ = 2147483647} {m₂ = 2147483647} (omega arith) (omega arith) in
     record { fits = omega arith }
 
-pub overflow-add-t2 : goal.overflow-add-t2
-overflow-add-t2 g c = record { fits = omega arith }
+pub overflow_add-t2 : goal.overflow_add-t2
+overflow_add-t2 g c = record { fits = omega arith }
 
 pub loop-r1-preserved : goal.loop-r1-preserved
 loop-r1-preserved g c =

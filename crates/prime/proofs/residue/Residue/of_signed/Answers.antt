@@ -12,7 +12,7 @@ returns g c h =
     let n = c.args.n in
     let same = to_z-of_z w32 n c.ranges.n in
     let below-zero = ap (λ z. lt_z z (pos 0)) (sym same) in
-    let rest : c.unsigned-abs-rest.result % g.row.P ≡ nat_abs n % g.row.P = ap (λ k. k % g.row.P) (c.unsigned-abs-rest.ensures.value ∙ ap nat_abs same) in
+    let rest : c.unsigned_abs-rest.result % g.row.P ≡ nat_abs n % g.row.P = ap (λ k. k % g.row.P) (c.unsigned_abs-rest.ensures.value ∙ ap nat_abs same) in
     let is : c.if-n-lt0.value ≡ modulo g.row.P n =
     elim c.if-n-lt0.branch [
       | then-n-lt0+then-rest-gt0 w ↦ let less : c.if-n-lt0.value ≡ g.row.P - nat_abs n % g.row.P = omega (arith, rest, w.value-is) in less ∙ modulo_negative g.row.P n h (below-zero ∙ w.if-n-lt0.true) (omega (arith, rest, w.if-rest-gt0.true))

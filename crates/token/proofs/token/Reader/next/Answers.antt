@@ -3,35 +3,35 @@ use Rattle.token.proofs.Runs.{spaces_le}
 use Rattle.token.proofs.Steps.{from_on, spaces_fit, token_fits, line_fits, after_is, token_is, place_is}
 use Rattle.token.proofs.token.Reader.next.Goals as goal
 
-pub slice-bounds-bytes-count : goal.slice-bounds-bytes-count
-slice-bounds-bytes-count c =
+pub slice_bounds-bytes-count : goal.slice_bounds-bytes-count
+slice_bounds-bytes-count c =
     let h = spaces_le (from_on c.args.self.now.sheet.now c.args.self.now.cursor) in
-    let e = c.leading-spaces-skipped.ensures in
+    let e = c.leading_spaces-skipped.ensures in
     omega arith
 
-pub slice-bounds-bytes-start : goal.slice-bounds-bytes-start
-slice-bounds-bytes-start c =
+pub slice_bounds-bytes-start : goal.slice_bounds-bytes-start
+slice_bounds-bytes-start c =
     let h = spaces_le (from_on c.args.self.now.sheet.now c.args.self.now.cursor) in
-    let e = c.leading-spaces-skipped.ensures in
+    let e = c.leading_spaces-skipped.ensures in
     omega arith
 
-pub overflow-add-place : goal.overflow-add-place
-overflow-add-place c =
+pub overflow_add-place : goal.overflow_add-place
+overflow_add-place c =
     let r = c.args.self.now in
-    let h = spaces_fit r.sheet.now r.cursor _ _ _ _ r.inside c.leading-spaces-skipped.ensures c.token-at-token.ensures refl refl in
+    let h = spaces_fit r.sheet.now r.cursor _ _ _ _ r.inside c.leading_spaces-skipped.ensures c.token_at-token.ensures refl refl in
     omega arith
 
-pub overflow-add-self : goal.overflow-add-self
-overflow-add-self c =
+pub overflow_add-self : goal.overflow_add-self
+overflow_add-self c =
     let r = c.args.self.now in
-    let h = token_fits r.sheet.now r.cursor _ _ _ _ r.inside c.leading-spaces-skipped.ensures c.token-at-token.ensures c.width.ensures refl in
+    let h = token_fits r.sheet.now r.cursor _ _ _ _ r.inside c.leading_spaces-skipped.ensures c.token_at-token.ensures c.width.ensures refl in
     omega arith
 
-pub invariant-of-self : goal.invariant-of-self
-invariant-of-self c =
+pub invariant_of-self : goal.invariant_of-self
+invariant_of-self c =
     let r = c.args.self.now in
-    let h = token_fits r.sheet.now r.cursor _ _ _ _ r.inside c.leading-spaces-skipped.ensures c.token-at-token.ensures c.width.ensures refl in
-    let k = line_fits r.sheet.now r.cursor _ _ _ _ r.inside c.leading-spaces-skipped.ensures c.token-at-token.ensures c.width.ensures c.line-ends.ensures in
+    let h = token_fits r.sheet.now r.cursor _ _ _ _ r.inside c.leading_spaces-skipped.ensures c.token_at-token.ensures c.width.ensures refl in
+    let k = line_fits r.sheet.now r.cursor _ _ _ _ r.inside c.leading_spaces-skipped.ensures c.token_at-token.ensures c.width.ensures c.line_ends.ensures in
     (h, (omega arith, tt))
 
 pub returns : goal.returns
