@@ -6,8 +6,8 @@ use Rattle.token.specs.Readers.{cursor_of}
 use Rattle.expect.specs.Dues.{step, Due.within}
 use Rattle.expect.proofs.expect.part.Goals as goal
 
-pub returns-in-err-n : goal.returns-in-err-n
-returns-in-err-n c =
-    let p = err_from_is_err_and c.from-residual.result c.from-residual.ensures.1 in
+pub returns-in_err-n : goal.returns-in_err-n
+returns-in_err-n c =
+    let p = err_from_is_err_and c.from_residual.result c.from_residual.ensures.1 in
     rw (p.1, p.2)
-    (record { read = λ kept. c.in-err-n.ensures.read kept ∙ ap (λ z. step (within (pos 0) z fault.Part) kept (cursor_of c.args.reader.now)) (let e : ◌≡◌ {A = ℤ} _ (pos c.args.limit -ℤ pos 1) = omega (arith, ints) in e); below = tt })
+    (record { read = λ kept. c.in_err-n.ensures.read kept ∙ ap (λ z. step (within (pos 0) z fault.Part) kept (cursor_of c.args.reader.now)) (let e : ◌≡◌ {A = ℤ} _ (pos c.args.limit -ℤ pos 1) = omega (arith, ints) in e); below = tt })

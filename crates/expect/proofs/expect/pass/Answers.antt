@@ -4,13 +4,13 @@ use Rattle.expect.specs.Expectations.{due_of}
 use Rattle.expect.proofs.Passes.{pass_on, pass_stop, pass_done}
 use Rattle.expect.proofs.expect.pass.Goals as goal
 
-pub returns-in-err-expect : goal.returns-in-err-expect
-returns-in-err-expect c kept =
-    let p = err_from_is_err_and c.from-residual.result c.from-residual.ensures.1 in
-    rw (p.1, p.2) (pass_stop due_of _ _ _ c.loop-due-test.true kept _ _ (c.in-err-expect.ensures kept) ∙ c.loop-due.invariant kept)
+pub returns-in_err-expect : goal.returns-in_err-expect
+returns-in_err-expect c kept =
+    let p = err_from_is_err_and c.from_residual.result c.from_residual.ensures.1 in
+    rw (p.1, p.2) (pass_stop due_of _ _ _ c.loop-due-test.true kept _ _ (c.in_err-expect.ensures kept) ∙ c.loop-due.invariant kept)
 
 pub loop-due-preserved : goal.loop-due-preserved
-loop-due-preserved c kept = pass_on due_of _ _ _ c.loop-due-test.true kept _ _ (c.in-ok-expect.ensures kept) ∙ c.loop-due.invariant kept
+loop-due-preserved c kept = pass_on due_of _ _ _ c.loop-due-test.true kept _ _ (c.in_ok-expect.ensures kept) ∙ c.loop-due.invariant kept
 
 pub returns : goal.returns
 returns c kept = pass_done due_of _ _ c.loop-due-test.false kept _ ∙ c.loop-due.invariant kept

@@ -32,7 +32,7 @@ invariant_of-self c =
     let r = c.args.self.now in
     let h = token_fits r.sheet.now r.cursor _ _ _ _ r.inside c.leading_spaces-skipped.ensures c.token_at-token.ensures c.width.ensures refl in
     let k = line_fits r.sheet.now r.cursor _ _ _ _ r.inside c.leading_spaces-skipped.ensures c.token_at-token.ensures c.width.ensures c.line_ends.ensures in
-    (h, (omega arith, tt))
+    record { inside = h; counted = omega arith }
 
 pub returns : goal.returns
 returns c =
