@@ -1,5 +1,5 @@
 -- Reading accepts just the sheets, with values given by their parts. Assumes nothing.
-use Rattle.std.proofs.Common.{◌≡◌, ℕ, zero, suc, ◌<◌, List, [], ◌∷◌, ◌++◌, length, get_or, drop, replicate, ℤ, pos, negsuc, ◌-ℤ◌, ◌≤ℤ◌, Ok, Err, Result, sym, refl, ap, ◌∙◌, subst, append_nil, arith}
+use Rattle.std.proofs.Common.{◌≡◌, ℕ, zero, suc, ◌<◌, List, [], ◌∷◌, ◌++◌, length, get_or, drop, replicate, ℤ, pos, negsuc, ◌-ℤ◌, ◌≤ℤ◌, Ok, Err, Result, sym, refl, ap, ◌∙◌, subst, append-nil, arith}
 use Rattle.std.specs.List.{AllByRecursion as All}
 use Rattle.std.proofs.lemmas.Int.{ints}
 use Rattle.std.proofs.lemmas.Bool.Decides.{nat_tests}
@@ -139,6 +139,6 @@ module _ (p e : ℕ) (t : Terms) (bs : List ℕ) where
       let k = kept_lines p e 0 (suc t.degree) vs s.count s.parts in
       let l = subst (λ ms. Layout (head_marks p e t c ++ ms) [] bs) (sym (marks_lines p e 0 (suc t.degree) vs s.count)) s.layout in
       let a = arrive (due p e t) [] [] (c ∷ flat vs) (cursor_start bs) [] (s.least, s.greatest, k) l in
-      ap (λ ds. concluded (pass ds [] (cursor_start bs))) (sym (append_nil (due p e t)))
+      ap (λ ds. concluded (pass ds [] (cursor_start bs))) (sym (append-nil (due p e t)))
       ∙ ap concluded (a.passes ∙ pass_none (c ∷ flat vs) a.at)
       ∙ ap (λ ws. Ok (c, ws)) (paired_flat vs)

@@ -1,5 +1,5 @@
 -- A pass and the layout of marks: what a pass accepts is laid out, what it refuses is a first fault, and what is laid out is accepted. Assumes nothing.
-use Rattle.std.proofs.Common.{◌≡◌, ℕ, ◌+◌, List, [], ◌∷◌, ◌++◌, length, replicate, ℤ, pos, Ok, Err, sym, refl, ap, ◌∙◌, subst, append_assoc, append_nil}
+use Rattle.std.proofs.Common.{◌≡◌, ℕ, ◌+◌, List, [], ◌∷◌, ◌++◌, length, replicate, ℤ, pos, Ok, Err, sym, refl, ap, ◌∙◌, subst, append_assoc, append-nil}
 use Rattle.std.proofs.lemmas.Bool.{cond-true}
 use Rattle.board.specs.declared.refusal.Fault.{Fault}
 use Rattle.board.specs.declared.refusal.Refusal.{Refusal}
@@ -120,12 +120,12 @@ trace_on : (d : Due) (ds : List Due) (kept : List ℤ) (s : Cursor) → ((kept' 
 trace_on d ds kept s ih (wrong f) e m = broken_here d ds s f e
 trace_on d ds kept s ih fine e m =
     more d ds kept [] s (stepped_fine d s m) (pass ds kept (after_token s))
-    (subst (λ zs. Traced ds zs (after_token s) (pass ds kept (after_token s))) (sym (append_nil kept)) (ih kept (after_token s)))
+    (subst (λ zs. Traced ds zs (after_token s) (pass ds kept (after_token s))) (sym (append-nil kept)) (ih kept (after_token s)))
 trace_on d ds kept s ih (keep z) e m = more d ds kept (z ∷ []) s (stepped_keep d s z m) (pass ds (kept ++ z ∷ []) (after_token s)) (ih (kept ++ z ∷ []) (after_token s))
 
 pub trace : (ds : List Due) (kept : List ℤ) (s : Cursor) → Traced ds kept s (pass ds kept s)
 unfolding pass
-trace [] kept s = record { numbers = []; all = sym (append_nil kept); ranges = refl; layout = (0, refl) }
+trace [] kept s = record { numbers = []; all = sym (append-nil kept); ranges = refl; layout = (0, refl) }
 trace (d ∷ ds) kept s = trace_on d ds kept s (λ kept' t. trace ds kept' t) (check d (next_token s)) refl (met d (next_token s))
 
 -- a reader that has read what is due, up to spaces before what is left
@@ -158,13 +158,13 @@ arrive_on d ds es kept ns zs s left e a = record {
 
 -- what is fine keeps nothing
 go_fine : (d : Due) (ds : List Due) (kept : List ℤ) (s : Cursor) → check d (next_token s) ≡ fine → pass (d ∷ ds) kept s ≡ pass ds (kept ++ []) (after_token s)
-go_fine d ds kept s e = pass_by d ds kept s fine e ∙ ap (λ zs. pass ds zs (after_token s)) (sym (append_nil kept))
+go_fine d ds kept s e = pass_by d ds kept s fine e ∙ ap (λ zs. pass ds zs (after_token s)) (sym (append-nil kept))
 
 -- what is laid out is accepted
 pub arrive : (ds es : List Due) (kept zs : List ℤ) (s : Cursor) (left : List ℕ) → Kept ds zs → Layout (due_marks ds zs) left s.rest → Arrived ds es kept zs s left
 arrive [] es kept zs s left k l = record {
   at = s;
-  passes = ap (λ ys. pass es ys s) (sym (append_nil kept) ∙ ap (λ ys. kept ++ ys) (sym k));
+  passes = ap (λ ys. pass es ys s) (sym (append-nil kept) ∙ ap (λ ys. kept ++ ys) (sym k));
   spaces = l.0;
   rest_is = l.1;
   place_is = refl;

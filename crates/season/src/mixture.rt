@@ -22,55 +22,55 @@ impl<F: Field> Question<F> for Season {
 
     fn fit(&self, grid: Grid) -> Fit {
         match self {
-            Season::Cell(q) => CellQuestion::<F>::fit(q, grid),
-            Season::Goods(q) => GoodsQuestion::<F>::fit(q, grid),
-            Season::Range(q) => RangeQuestion::<F>::fit(q, grid),
-            Season::Squares(q) => SquaresQuestion::<F>::fit(q, grid),
+            Season::Cell(q) => <Cell as Question<F>>::fit(q, grid),
+            Season::Goods(q) => <Goods as Question<F>>::fit(q, grid),
+            Season::Range(q) => <Range as Question<F>>::fit(q, grid),
+            Season::Squares(q) => <Squares as Question<F>>::fit(q, grid),
         }
     }
 
     fn degree(&self, grid: Grid) -> u32 {
         match self {
-            Season::Cell(q) => CellQuestion::<F>::degree(q, grid),
-            Season::Goods(q) => GoodsQuestion::<F>::degree(q, grid),
-            Season::Range(q) => RangeQuestion::<F>::degree(q, grid),
-            Season::Squares(q) => SquaresQuestion::<F>::degree(q, grid),
+            Season::Cell(q) => <Cell as Question<F>>::degree(q, grid),
+            Season::Goods(q) => <Goods as Question<F>>::degree(q, grid),
+            Season::Range(q) => <Range as Question<F>>::degree(q, grid),
+            Season::Squares(q) => <Squares as Question<F>>::degree(q, grid),
         }
     }
 
     fn least(&self) -> i64 {
         match self {
-            Season::Cell(q) => CellQuestion::<F>::least(q),
-            Season::Goods(q) => GoodsQuestion::<F>::least(q),
-            Season::Range(q) => RangeQuestion::<F>::least(q),
-            Season::Squares(q) => SquaresQuestion::<F>::least(q),
+            Season::Cell(q) => <Cell as Question<F>>::least(q),
+            Season::Goods(q) => <Goods as Question<F>>::least(q),
+            Season::Range(q) => <Range as Question<F>>::least(q),
+            Season::Squares(q) => <Squares as Question<F>>::least(q),
         }
     }
 
     fn greatest(&self) -> i64 {
         match self {
-            Season::Cell(q) => CellQuestion::<F>::greatest(q),
-            Season::Goods(q) => GoodsQuestion::<F>::greatest(q),
-            Season::Range(q) => RangeQuestion::<F>::greatest(q),
-            Season::Squares(q) => SquaresQuestion::<F>::greatest(q),
+            Season::Cell(q) => <Cell as Question<F>>::greatest(q),
+            Season::Goods(q) => <Goods as Question<F>>::greatest(q),
+            Season::Range(q) => <Range as Question<F>>::greatest(q),
+            Season::Squares(q) => <Squares as Question<F>>::greatest(q),
         }
     }
 
     fn tag(&self) -> Tag {
         match self {
-            Season::Cell(q) => CellQuestion::<F>::tag(q),
-            Season::Goods(q) => GoodsQuestion::<F>::tag(q),
-            Season::Range(q) => RangeQuestion::<F>::tag(q),
-            Season::Squares(q) => SquaresQuestion::<F>::tag(q),
+            Season::Cell(q) => <Cell as Question<F>>::tag(q),
+            Season::Goods(q) => <Goods as Question<F>>::tag(q),
+            Season::Range(q) => <Range as Question<F>>::tag(q),
+            Season::Squares(q) => <Squares as Question<F>>::tag(q),
         }
     }
 
     fn tally(&self, grid: Grid, counts: &[i32]) -> i64 {
         match self {
-            Season::Cell(q) => CellQuestion::<F>::tally(q, grid, counts),
-            Season::Goods(q) => GoodsQuestion::<F>::tally(q, grid, counts),
-            Season::Range(q) => RangeQuestion::<F>::tally(q, grid, counts),
-            Season::Squares(q) => SquaresQuestion::<F>::tally(q, grid, counts),
+            Season::Cell(q) => <Cell as Question<F>>::tally(q, grid, counts),
+            Season::Goods(q) => <Goods as Question<F>>::tally(q, grid, counts),
+            Season::Range(q) => <Range as Question<F>>::tally(q, grid, counts),
+            Season::Squares(q) => <Squares as Question<F>>::tally(q, grid, counts),
         }
     }
 

@@ -1,5 +1,5 @@
 -- Putting bytes on the paper, one after another. Assumes nothing.
-use Rattle.std.proofs.Common.{◌≡◌, ℕ, ◌+◌, ◌-◌, ◌/◌, ◌%◌, ◌^◌, ◌<◌, ◌≤◌, Bool, List, [], ◌∷◌, ◌++◌, map, length, get_or, take, drop, set, ℤ, pos, negsuc, nat_abs, ◌<ℤ◌, decimal, sym, refl, ap, ◌∙◌, subst, append_assoc, append_nil, arith, length-append, take-append-drop}
+use Rattle.std.proofs.Common.{◌≡◌, ℕ, ◌+◌, ◌-◌, ◌/◌, ◌%◌, ◌^◌, ◌<◌, ◌≤◌, Bool, List, [], ◌∷◌, ◌++◌, map, length, get_or, take, drop, set, ℤ, pos, negsuc, nat_abs, ◌<ℤ◌, decimal, sym, refl, ap, ◌∙◌, subst, append_assoc, append-nil, arith, length-append, take-append-drop}
 use borrow.Rule.Slice.PartMut.{put_mid}
 use Rattle.std.specs.Fmt.{signed_decimal}
 use Rattle.std.proofs.lemmas.Fmt.{decimal_step}
@@ -23,7 +23,7 @@ lays_bytes bs xs ys at e h =
     }
 
 pub lays_none : (xs : List ℕ) (at : ℕ) → Lays [] xs at xs at
-lays_none xs at = record { end_is = omega arith; front = sym (append_nil (take at xs)); back = refl }
+lays_none xs at = record { end_is = omega arith; front = sym (append-nil (take at xs)); back = refl }
 
 pub lays_more : {bs cs p q r : List ℕ} {a m e : ℕ} → Lays bs p a q m → Lays cs q m r e → Lays (bs ++ cs) p a r e
 lays_more {bs} {cs} {p} {q} {r} {a} {m} {e} x y =
@@ -77,7 +77,7 @@ pub putting_more : {total before paper after rest : List ℕ} {at end end' : ℕ
 putting_more p cs more e l = record { sofar = p.sofar ++ cs; lays = lays_more p.lays l; split = append_assoc p.sofar cs more ∙ ap (λ zs. p.sofar ++ zs) (sym e) ∙ p.split }
 
 pub putting_all : {total before paper rest : List ℕ} {at end : ℕ} → Putting total before at paper end rest → rest ≡ [] → Lays total before at paper end
-putting_all p e = lays_as (sym (append_nil p.sofar) ∙ ap (λ zs. p.sofar ++ zs) (sym e) ∙ p.split) p.lays
+putting_all p e = lays_as (sym (append-nil p.sofar) ∙ ap (λ zs. p.sofar ++ zs) (sym e) ∙ p.split) p.lays
 
 -- marks that are read off a list, one by one
 module _ {X : Type 0} (f : X → Mark) (xs : List X) (i : ℕ) (space : Bool) where

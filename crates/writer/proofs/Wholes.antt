@@ -1,5 +1,5 @@
 -- A whole sheet, put on paper line by line. Assumes nothing.
-use Rattle.std.proofs.Common.{◌≡◌, ℕ, ◌+◌, ◌^◌, ◌<◌, ◌≤◌, true, leb, List, [], ◌++◌, length, drop, ℤ, pos, negsuc, nat_abs, Ok, Err, sym, refl, ap, ◌∙◌, append_nil, arith}
+use Rattle.std.proofs.Common.{◌≡◌, ℕ, ◌+◌, ◌^◌, ◌<◌, ◌≤◌, true, leb, List, [], ◌++◌, length, drop, ℤ, pos, negsuc, nat_abs, Ok, Err, sym, refl, ap, ◌∙◌, append-nil, arith}
 use lib.Signed.{mag}
 use Rattle.std.proofs.lemmas.Bool.{cond-true, and_from, le-leb}
 use Rattle.board.specs.declared.refusal.Refusal.TheVariants.{PaperShort}
@@ -42,10 +42,10 @@ module _ {K : Type 0} (F : FieldModel K) (xs : List K) (t : Terms) (c : ℤ) (p 
       two = putting_more one second (lines_from F xs 0) refl y
 
       pub lines_room : b + length (lines_from F xs 0) ≤ 0 + length (text F t c xs)
-      lines_room = putting_room two (lines_from F xs 0) [] (sym (append_nil (lines_from F xs 0)))
+      lines_room = putting_room two (lines_from F xs 0) [] (sym (append-nil (lines_from F xs 0)))
 
       pub all_put : {paper₃ : List ℕ} {d : ℕ} → Lays (lines_from F xs 0) paper₂ b paper₃ d → Lays (text F t c xs) paper 0 paper₃ d
-      all_put l = putting_all (putting_more two (lines_from F xs 0) [] (sym (append_nil (lines_from F xs 0))) l) refl
+      all_put l = putting_all (putting_more two (lines_from F xs 0) [] (sym (append-nil (lines_from F xs 0))) l) refl
 
 -- a claim of the code has at most 19 digits
 pub claim_small : (c : ℤ) → mag c < 2 ^ 63 → nat_abs c < 10 ^ 19

@@ -8,8 +8,8 @@ use Rattle.question.proofs.Tallies.{goods_abs}
 use Rattle.season.proofs.goods.goods_count.Goals as goal
 use Rattle.season.proofs.goods.goods_count.Goals.{then-i-kind, else-i-kind}
 
-pub overflow-add-all : goal.overflow-add-all
-overflow-add-all c =
+pub overflow_add-all : goal.overflow_add-all
+overflow_add-all c =
     let fs = c.args.counts.now in
     let i = c.loop-i.i in
     let f = get_or fs i (pos 0) in

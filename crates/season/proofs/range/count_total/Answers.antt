@@ -6,10 +6,10 @@ use Rattle.season.proofs.Tallies.{abs-take, fits_32, add_fits, added}
 use Rattle.season.proofs.Tallies.{counts_abs, counts_more}
 use Rattle.season.proofs.range.count_total.Goals as goal
 
-pub overflow-add-all : goal.overflow-add-all
-overflow-add-all c =
+pub overflow_add-all : goal.overflow_add-all
+overflow_add-all c =
     let fs = c.args.counts.now in
-    let i = c.loop-count.count_index in
+    let i = c.loop-count.count-index in
     let f = get_or fs i (pos 0) in
     let small : nat_abs f ≤ 46340 = omega (arith, abs_at fs i) in
     let x-is = c.from-all.ensures ∙ to_z-of_z w32 f (fits_32 f small) in
@@ -18,7 +18,7 @@ overflow-add-all c =
 pub loop-count-preserved : goal.loop-count-preserved
 loop-count-preserved c =
     let fs = c.args.counts.now in
-    let i = c.loop-count.count_index in
+    let i = c.loop-count.count-index in
     let f = get_or fs i (pos 0) in
     let so_far = c.loop-count.invariant in
     let small : nat_abs f ≤ 46340 = omega (arith, abs_at fs i) in

@@ -5,10 +5,10 @@ use Rattle.question.specs.SquareSums.{squares_tally}
 use Rattle.season.proofs.Tallies.{fits_32, square_small, squares_small, squares_more, add_fits, added}
 use Rattle.season.proofs.squares.square_count.Goals as goal
 
-pub overflow-add-all : goal.overflow-add-all
-overflow-add-all c =
+pub overflow_add-all : goal.overflow_add-all
+overflow_add-all c =
     let fs = c.args.counts.now in
-    let i = c.loop-count.count_index in
+    let i = c.loop-count.count-index in
     let f = get_or fs i (pos 0) in
     let small : nat_abs f ≤ 46340 = omega (arith, abs_at fs i) in
     let x-is = c.square-all.ensures ∙ ap (λ z. z *ℤ z) (to_z-of_z w32 f (fits_32 f small)) in
@@ -17,7 +17,7 @@ overflow-add-all c =
 pub loop-count-preserved : goal.loop-count-preserved
 loop-count-preserved c =
     let fs = c.args.counts.now in
-    let i = c.loop-count.count_index in
+    let i = c.loop-count.count-index in
     let f = get_or fs i (pos 0) in
     let so_far = c.loop-count.invariant in
     let small : nat_abs f ≤ 46340 = omega (arith, abs_at fs i) in

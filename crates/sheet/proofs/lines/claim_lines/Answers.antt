@@ -7,35 +7,35 @@ use Rattle.expect.proofs.Passes.{stop_first}
 use Rattle.sheet.proofs.Passes.{stop_claim, at_form_end}
 use Rattle.sheet.proofs.lines.claim_lines.Goals as goal
 
-pub returns-in-err-pass : goal.returns-in-err-pass
-returns-in-err-pass c =
-    let p = err_from_is_err_and c.from-residual.result c.from-residual.ensures.1 in
-    rw (p.1, p.2) (λ kept. stop_first (front c.args.p c.args.e c.args.terms.now) _ kept _ _ (c.in-err-pass.ensures kept))
+pub returns-in_err-pass : goal.returns-in_err-pass
+returns-in_err-pass c =
+    let p = err_from_is_err_and c.from_residual.result c.from_residual.ensures.1 in
+    rw (p.1, p.2) (λ kept. stop_first (front c.args.p c.args.e c.args.terms.now) _ kept _ _ (c.in_err-pass.ensures kept))
 
-pub returns-in-err-claim : goal.returns-in-err-claim
-returns-in-err-claim c =
-    let p = err_from_is_err_and c.from-residual-in-err-claim.result c.from-residual-in-err-claim.ensures.1 in
+pub returns-in_err-claim : goal.returns-in_err-claim
+returns-in_err-claim c =
+    let p = err_from_is_err_and c.from_residual-in_err-claim.result c.from_residual-in_err-claim.ensures.1 in
     let f : SFits w64 c.args.terms.now.least = search rules in
     let g : SFits w64 c.args.terms.now.greatest = search rules in
     rw (p.1, p.2)
-    (λ kept. stop_claim c.args.p c.args.e c.args.terms.now _ _ (to_z-of_z w64 _ f) (to_z-of_z w64 _ g) kept _ _ (c.in-ok-pass.ensures kept) _ (c.in-err-claim.ensures.read kept))
+    (λ kept. stop_claim c.args.p c.args.e c.args.terms.now _ _ (to_z-of_z w64 _ f) (to_z-of_z w64 _ g) kept _ _ (c.in_ok-pass.ensures kept) _ (c.in_err-claim.ensures.read kept))
 
-pub returns-in-err-pass-2 : goal.returns-in-err-pass-2
-returns-in-err-pass-2 c =
-    let p = err_from_is_err_and c.from-residual-in-err-pass-2.result c.from-residual-in-err-pass-2.ensures.1 in
+pub returns-in_err-pass-2 : goal.returns-in_err-pass-2
+returns-in_err-pass-2 c =
+    let p = err_from_is_err_and c.from_residual-in_err-pass-2.result c.from_residual-in_err-pass-2.ensures.1 in
     let f : SFits w64 c.args.terms.now.least = search rules in
     let g : SFits w64 c.args.terms.now.greatest = search rules in
     rw (p.1, p.2)
     (λ kept.
-    c.in-err-pass-2.ensures (kept ++ c.in-ok-claim.claim ∷ [])
-    ∙ at_form_end c.args.p c.args.e c.args.terms.now _ _ (to_z-of_z w64 _ f) (to_z-of_z w64 _ g) kept _ _ (c.in-ok-pass.ensures kept) _ _ (c.in-ok-claim.ensures.read kept))
+    c.in_err-pass-2.ensures (kept ++ c.in_ok-claim.claim ∷ [])
+    ∙ at_form_end c.args.p c.args.e c.args.terms.now _ _ (to_z-of_z w64 _ f) (to_z-of_z w64 _ g) kept _ _ (c.in_ok-pass.ensures kept) _ _ (c.in_ok-claim.ensures.read kept))
 
 pub returns : goal.returns
 returns c =
     let f : SFits w64 c.args.terms.now.least = search rules in
     let g : SFits w64 c.args.terms.now.greatest = search rules in
-    let h : SFits w64 c.in-ok-claim.claim = search rules in
+    let h : SFits w64 c.in_ok-claim.claim = search rules in
     λ kept.
-    ap (λ z. Ok (kept ++ z ∷ [], cursor_of c.pass-2.new.reader)) (to_z-of_z w64 c.in-ok-claim.claim h)
-    ∙ c.in-ok-pass-2.ensures (kept ++ c.in-ok-claim.claim ∷ [])
-    ∙ at_form_end c.args.p c.args.e c.args.terms.now _ _ (to_z-of_z w64 _ f) (to_z-of_z w64 _ g) kept _ _ (c.in-ok-pass.ensures kept) _ _ (c.in-ok-claim.ensures.read kept)
+    ap (λ z. Ok (kept ++ z ∷ [], cursor_of c.pass-2.new.reader)) (to_z-of_z w64 c.in_ok-claim.claim h)
+    ∙ c.in_ok-pass-2.ensures (kept ++ c.in_ok-claim.claim ∷ [])
+    ∙ at_form_end c.args.p c.args.e c.args.terms.now _ _ (to_z-of_z w64 _ f) (to_z-of_z w64 _ g) kept _ _ (c.in_ok-pass.ensures kept) _ _ (c.in_ok-claim.ensures.read kept)

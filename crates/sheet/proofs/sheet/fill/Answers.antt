@@ -7,53 +7,53 @@ use Rattle.sheet.specs.Readings.{claim_due, value_line, claim_of}
 use Rattle.sheet.proofs.Fills.{flat, none_read, one_read, line_stops, ending_stops, all_read, tray_is, claim_stops, fills}
 use Rattle.sheet.proofs.sheet.fill.Goals as goal
 
-pub returns-in-err-claim : goal.returns-in-err-claim
-returns-in-err-claim g c =
+pub returns-in_err-claim : goal.returns-in_err-claim
+returns-in_err-claim g c =
     let F = g.F.Field.model in
-    let p = err_from_is_err_and c.from-residual.result c.from-residual.ensures.1 in
+    let p = err_from_is_err_and c.from_residual.result c.from_residual.ensures.1 in
     let e = claim_stops F c.args.terms.now c.args.sheet.now _
-    (c.in-err-claim.ensures [] ∙ (λ i. pass (claim_due (c.characteristic-p.ensures i) (c.degree-e.ensures i) c.args.terms.now) [] (c.new-reader.ensures i))) in
+    (c.in_err-claim.ensures [] ∙ (λ i. pass (claim_due (c.characteristic-p.ensures i) (c.degree-e.ensures i) c.args.terms.now) [] (c.new-reader.ensures i))) in
     rw (p.1, p.2) (record { answer = ap (claim_of F) (sym e); tray = fills F c.args.terms.now c.args.sheet.now (suc c.args.terms.now.degree) c.args.tray.now c.args.tray.now _ e refl })
 
 pub loop-j-init : goal.loop-j-init
 loop-j-init g c =
-    let f : SFits w64 c.in-ok-claim.claim = search rules in
-    none_read g.F.Field.model c.args.terms.now c.args.sheet.now (suc c.args.terms.now.degree) (to_z w64 (of_z w64 c.in-ok-claim.claim)) c.args.tray.now refl (cursor_of c.claim-lines.new.reader)
-    (ap (λ z. Ok (z ∷ [], cursor_of c.claim-lines.new.reader)) (to_z-of_z w64 c.in-ok-claim.claim f)
-    ∙ c.in-ok-claim.ensures []
+    let f : SFits w64 c.in_ok-claim.claim = search rules in
+    none_read g.F.Field.model c.args.terms.now c.args.sheet.now (suc c.args.terms.now.degree) (to_z w64 (of_z w64 c.in_ok-claim.claim)) c.args.tray.now refl (cursor_of c.claim_lines.new.reader)
+    (ap (λ z. Ok (z ∷ [], cursor_of c.claim_lines.new.reader)) (to_z-of_z w64 c.in_ok-claim.claim f)
+    ∙ c.in_ok-claim.ensures []
     ∙ (λ i. pass (claim_due (c.characteristic-p.ensures i) (c.degree-e.ensures i) c.args.terms.now) [] (c.new-reader.ensures i)))
 
-pub returns-in-err-low : goal.returns-in-err-low
-returns-in-err-low g c =
+pub returns-in_err-low : goal.returns-in_err-low
+returns-in_err-low g c =
     let F = g.F.Field.model in
-    let p = err_from_is_err_and c.from-residual-in-err-low.result c.from-residual-in-err-low.ensures.1 in
+    let p = err_from_is_err_and c.from_residual-in_err-low.result c.from_residual-in_err-low.ensures.1 in
     let f = c.loop-j.invariant in
-    let kept = to_z w64 (of_z w64 c.in-ok-claim.claim) ∷ flat f.parts in
+    let kept = to_z w64 (of_z w64 c.in_ok-claim.claim) ∷ flat f.parts in
     let e = line_stops F c.args.terms.now c.args.sheet.now (suc c.args.terms.now.degree) _ c.args.tray.now c.loop-j.j (omega arith) (cursor_of c.loop-j.reader) c.loop-j.tray f _
-    (c.in-err-low.ensures.read kept ∙ (λ i. pass (value_line (c.characteristic-p.ensures i) (c.degree-e.ensures i) c.loop-j.j) kept (cursor_of c.loop-j.reader))) in
+    (c.in_err-low.ensures.read kept ∙ (λ i. pass (value_line (c.characteristic-p.ensures i) (c.degree-e.ensures i) c.loop-j.j) kept (cursor_of c.loop-j.reader))) in
     rw (p.1, p.2) (record { answer = ap (claim_of F) (sym e); tray = fills F c.args.terms.now c.args.sheet.now (suc c.args.terms.now.degree) c.args.tray.now c.loop-j.tray _ e f.others })
 
 pub loop-j-preserved : goal.loop-j-preserved
 loop-j-preserved g c =
     let f = c.loop-j.invariant in
-    let kept = to_z w64 (of_z w64 c.in-ok-claim.claim) ∷ flat f.parts in
+    let kept = to_z w64 (of_z w64 c.in_ok-claim.claim) ∷ flat f.parts in
     one_read g.F.Field.model c.args.terms.now c.args.sheet.now (suc c.args.terms.now.degree) _ c.args.tray.now c.loop-j.j (omega arith) (cursor_of c.loop-j.reader) c.loop-j.tray f
-    c.in-ok-low.low c.in-ok-low.high c.of-parts.result (cursor_of c.value-line.new.reader) (omega arith) c.of-parts.ensures
-    (c.in-ok-low.ensures.read kept ∙ (λ i. pass (value_line (c.characteristic-p.ensures i) (c.degree-e.ensures i) c.loop-j.j) kept (cursor_of c.loop-j.reader)))
+    c.in_ok-low.low c.in_ok-low.high c.of_parts.result (cursor_of c.value_line.new.reader) (omega arith) c.of_parts.ensures
+    (c.in_ok-low.ensures.read kept ∙ (λ i. pass (value_line (c.characteristic-p.ensures i) (c.degree-e.ensures i) c.loop-j.j) kept (cursor_of c.loop-j.reader)))
 
-pub returns-in-err-last-line : goal.returns-in-err-last-line
-returns-in-err-last-line g c =
+pub returns-in_err-last_line : goal.returns-in_err-last_line
+returns-in_err-last_line g c =
     let F = g.F.Field.model in
-    let p = err_from_is_err_and c.from-residual-in-err-last-line.result c.from-residual-in-err-last-line.ensures.1 in
+    let p = err_from_is_err_and c.from_residual-in_err-last_line.result c.from_residual-in_err-last_line.ensures.1 in
     let f = c.loop-j.invariant in
-    let e = ending_stops F c.args.terms.now c.args.sheet.now (suc c.args.terms.now.degree) _ c.args.tray.now c.loop-j.j (omega arith) (cursor_of c.loop-j.reader) c.loop-j.tray f _ (c.in-err-last-line.ensures _) in
+    let e = ending_stops F c.args.terms.now c.args.sheet.now (suc c.args.terms.now.degree) _ c.args.tray.now c.loop-j.j (omega arith) (cursor_of c.loop-j.reader) c.loop-j.tray f _ (c.in_err-last_line.ensures _) in
     rw (p.1, p.2) (record { answer = ap (claim_of F) (sym e); tray = fills F c.args.terms.now c.args.sheet.now (suc c.args.terms.now.degree) c.args.tray.now c.loop-j.tray _ e f.others })
 
 pub returns : goal.returns
 returns g c =
     let F = g.F.Field.model in
     let f = c.loop-j.invariant in
-    let e = all_read F c.args.terms.now c.args.sheet.now (suc c.args.terms.now.degree) _ c.args.tray.now c.loop-j.j (omega arith) (cursor_of c.loop-j.reader) c.loop-j.tray f (cursor_of c.last-line.new.reader) (c.in-ok-last-line.ensures _) in
+    let e = all_read F c.args.terms.now c.args.sheet.now (suc c.args.terms.now.degree) _ c.args.tray.now c.loop-j.j (omega arith) (cursor_of c.loop-j.reader) c.loop-j.tray f (cursor_of c.last_line.new.reader) (c.in_ok-last_line.ensures _) in
     record {
       answer = ap (claim_of F) (sym e);
       tray = fills F c.args.terms.now c.args.sheet.now (suc c.args.terms.now.degree) c.args.tray.now c.loop-j.tray _ e
