@@ -18,9 +18,9 @@ pub(crate) fn answer_counts<F: Field, Q: Question<F>>(
     tray: &mut [F],
     paper: &mut [u8],
 ) -> Result<(i64, usize), Refusal>
-    ensures answer { result ≡ (answered F.Field.model grid.rows grid.columns cells.now (meaning question.now) tray.old paper.old).answer }
-    ensures tray { tray.new ≡ (answered F.Field.model grid.rows grid.columns cells.now (meaning question.now) tray.old paper.old).tray }
-    ensures paper { paper.new ≡ (answered F.Field.model grid.rows grid.columns cells.now (meaning question.now) tray.old paper.old).paper }
+    ensures answer { result ≡ (answered F.Field.model grid.rows grid.columns cells.now (Q.Question.meaning question.now) tray.old paper.old).answer }
+    ensures tray { tray.new ≡ (answered F.Field.model grid.rows grid.columns cells.now (Q.Question.meaning question.now) tray.old paper.old).tray }
+    ensures paper { paper.new ≡ (answered F.Field.model grid.rows grid.columns cells.now (Q.Question.meaning question.now) tray.old paper.old).paper }
 {
     let count = grid.cells() as usize;
     if cells.len() < count {

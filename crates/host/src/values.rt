@@ -20,13 +20,13 @@ pub(crate) fn fill_values<F: Field, Q: Question<F>>(
     counts: &[i32],
     tray: &mut [F],
 )
-    requires fitting { (meaning question.now).fits grid.rows grid.columns ≡ Fit.Fits }
-    requires degree { degree ≡ (meaning question.now).degree grid.rows }
+    requires fitting { (Q.Question.meaning question.now).fits grid.rows grid.columns ≡ Fit.Fits }
+    requires degree { degree ≡ (Q.Question.meaning question.now).degree grid.rows }
     requires few { degree ≤ 252 }
     requires long { grid.rows * grid.columns ≤ length counts.now }
     requires ranged { Ranged counts.now }
     requires room { suc degree + grid.columns ≤ length tray.old }
-    ensures { tray.new ≡ honest F.Field.model grid.rows grid.columns (meaning question.now) counts.now ++ (columns F.Field.model grid.rows grid.columns counts.now (node F.Field.model degree) ++ drop (suc degree + grid.columns) tray.old) }
+    ensures { tray.new ≡ honest F.Field.model grid.rows grid.columns (Q.Question.meaning question.now) counts.now ++ (columns F.Field.model grid.rows grid.columns counts.now (node F.Field.model degree) ++ drop (suc degree + grid.columns) tray.old) }
 {
     let start = degree + 1;
     let end = start + grid.columns() as usize;

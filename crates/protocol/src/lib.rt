@@ -12,8 +12,8 @@ use sheet::Terms;
 
 // The degree of a question that suits the grid: it fits, and its degree is from rows − 1 to 252.
 pub fn suited_degree<F: Field, Q: Question<F>>(question: &Q, grid: Grid) -> Result<u32, Refusal>
-    ensures answer { granted result ≡ suit_answer (meaning question.now) grid.rows grid.columns }
-    ensures degree { IfOk result (λ d. d ≡ (meaning question.now).degree grid.rows) }
+    ensures answer { granted result ≡ suit_answer (Q.Question.meaning question.now) grid.rows grid.columns }
+    ensures degree { IfOk result (λ d. d ≡ (Q.Question.meaning question.now).degree grid.rows) }
 {
     match question.fit(grid) {
         Fit::Fits => {
@@ -30,7 +30,7 @@ pub fn suited_degree<F: Field, Q: Question<F>>(question: &Q, grid: Grid) -> Resu
 
 // What a sheet for the question has to agree with.
 pub fn terms_of<F: Field, Q: Question<F>>(question: &Q, grid: Grid) -> Terms
-    ensures { result ≡ terms_of (meaning question.now) grid.rows grid.columns }
+    ensures { result ≡ terms_of (Q.Question.meaning question.now) grid.rows grid.columns }
 {
     let tag = question.tag();
     Terms {

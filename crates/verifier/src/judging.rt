@@ -18,8 +18,8 @@ pub(crate) fn judge_cells<F: Field, Q: Question<F>>(
     sheet: &[u8],
     tray: &mut [F],
 ) -> Result<i64, Refusal>
-    ensures answer { result ≡ (judged F.Field.model grid.rows grid.columns point cells.now (meaning question.now) sheet.now tray.old).answer }
-    ensures tray { tray.new ≡ (judged F.Field.model grid.rows grid.columns point cells.now (meaning question.now) sheet.now tray.old).tray }
+    ensures answer { result ≡ (judged F.Field.model grid.rows grid.columns point cells.now (Q.Question.meaning question.now) sheet.now tray.old).answer }
+    ensures tray { tray.new ≡ (judged F.Field.model grid.rows grid.columns point cells.now (Q.Question.meaning question.now) sheet.now tray.old).tray }
 {
     let width = grid.columns() as usize;
     if cells.len() < width {

@@ -31,11 +31,11 @@ pub(crate) fn weigh<F: Field, Q: Question<F>>(
     claim: i64,
     values: &[F],
 ) -> Result<i64, Refusal>
-    requires fitting { (meaning question.now).fits grid.rows grid.columns ≡ Fit.Fits }
+    requires fitting { (Q.Question.meaning question.now).fits grid.rows grid.columns ≡ Fit.Fits }
     requires wide { length columns.now ≡ grid.columns }
     requires long { grid.rows ≤ length values.now }
     requires few { length values.now ≤ 253 }
-    ensures { result ≡ weighed F.Field.model grid.rows grid.columns point columns.now (meaning question.now) claim values.now }
+    ensures { result ≡ weighed F.Field.model grid.rows grid.columns point columns.now (Q.Question.meaning question.now) claim values.now }
 {
     let sum = sum_of_first(values, grid.rows() as usize);
     if !sum.is_same(claim_image::<F>(claim)) {

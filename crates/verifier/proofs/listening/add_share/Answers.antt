@@ -8,8 +8,8 @@ use Rattle.polynomial.specs.Interpolation.{chi}
 use Rattle.verifier.specs.Calls.{move_share}
 use Rattle.verifier.proofs.listening.add_share.Goals as goal
 
-pub basis-at-requires : goal.basis-at-requires
-basis-at-requires g c =
+pub basis_at-requires : goal.basis_at-requires
+basis_at-requires g c =
     let row : row_of c.args.grid.columns c.args.m.cell < c.args.grid.rows = (div-lt_iff_lt-mul (omega arith)).1 c.requires.inside in
     record { few = omega arith; inside = omega arith }
 
@@ -22,7 +22,7 @@ returns-in-Some g c =
     let inside : y < length bank = omega (arith, c.requires.long) in
     let e = slice_get-get_or bank y F.zero inside in
     let found = c.in-Some.ensures in
-    let column-is = c.column-of-column.ensures in
+    let column-is = c.column_of-column.ensures in
     let old : c.in-Some.sum ≡ get_or bank y F.zero = cc in
     let wide : SFits w64 c.args.m.amount = search rules in
     let narrow : SFits w32 c.args.m.amount = omega (arith, ints) in
@@ -31,7 +31,7 @@ returns-in-Some g c =
     let share : c.product-share.result ≡ move_share F c.args.grid.rows c.args.grid.columns c.args.point c.args.m =
     c.product-share.ensures
     ∙ ap₂ F.mul (c.image.ensures ∙ ap F.image amount)
-    (c.basis-at.ensures ∙ ap₂ (λ h x. chi F h x c.args.point) c.rows.ensures c.row-of-row.ensures) in
+    (c.basis_at.ensures ∙ ap₂ (λ h x. chi F h x c.args.point) c.rows.ensures c.row_of-row.ensures) in
     let granted = lt-ltb _ _ inside in
     record {
       answer = c.put.ensures.answer ∙ ap (reached bank) column-is ∙ ap (λ b. cond b (Ok tt) (Err BankShort)) granted;
@@ -48,6 +48,6 @@ returns-in-None g c =
     let inside : y < length bank = omega (arith, c.requires.long) in
     let e = slice_get-get_or bank y F.zero inside in
     let found = c.in-None.ensures in
-    let column-is = c.column-of-column.ensures in
+    let column-is = c.column_of-column.ensures in
     let z : ◌≡◌ {A = ℕ} 0 1 = cc in
     absurd (omega arith)

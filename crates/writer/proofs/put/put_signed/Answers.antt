@@ -6,5 +6,5 @@ use Rattle.writer.proofs.put.put_signed.Goals as goal
 pub returns-then-z-lt0 : goal.returns-then-z-lt0
 returns-then-z-lt0 c =
     let h : c.args.z <ℤ pos 0 = grind (arith, ints, to_z-of_z) in
-    lays_as (ap (λ n. 45 ∷ decimal n) (c.unsigned-abs.ensures.value ∙ ap nat_abs (to_z-of_z w64 c.args.z c.ranges.z)) ∙ signed_minus c.args.z h)
-    (lays_more c.put-byte-next.ensures c.put-decimal.ensures)
+    lays_as (ap (λ n. 45 ∷ decimal n) (c.unsigned_abs.ensures.value ∙ ap nat_abs (to_z-of_z w64 c.args.z c.ranges.z)) ∙ signed_minus c.args.z h)
+    (lays_more c.put_byte-next.ensures c.put_decimal.ensures)

@@ -8,8 +8,8 @@ use Rattle.writer.proofs.writer.put_values.Goals as goal
 pub loop-j-init : goal.loop-j-init
 loop-j-init g c = putting_none (lines_from g.F.Field.model c.args.values.now 0) c.args.paper.now c.args.at
 
-pub put-value-line-end-requires : goal.put-value-line-end-requires
-put-value-line-end-requires g c =
+pub put_value_line-end-requires : goal.put_value_line-end-requires
+put_value_line-end-requires g c =
     let r = putting_room c.loop-j.invariant (written (value_marks c.loop-j.j (c.low.result, c.high.result))) (lines_from g.F.Field.model c.args.values.now (c.loop-j.j + 1))
     (line_next g.F.Field.model c.args.values.now c.loop-j.j c.index-values-j.result c.low.result c.high.result (omega arith) c.index-values-j.is c.low.ensures c.high.ensures) in
     omega arith
@@ -18,13 +18,13 @@ pub loop-j-preserved : goal.loop-j-preserved
 loop-j-preserved g c =
     putting_more c.loop-j.invariant (written (value_marks c.loop-j.j (c.low.result, c.high.result))) (lines_from g.F.Field.model c.args.values.now (c.loop-j.j + 1))
     (line_next g.F.Field.model c.args.values.now c.loop-j.j c.index-values-j.result c.low.result c.high.result (omega arith) c.index-values-j.is c.low.ensures c.high.ensures)
-    c.put-value-line-end.ensures
+    c.put_value_line-end.ensures
 
-pub put-last-line-requires : goal.put-last-line-requires
-put-last-line-requires g c =
+pub put_last_line-requires : goal.put_last_line-requires
+put_last_line-requires g c =
     let r = putting_room c.loop-j.invariant (written end_marks) [] (lines_done g.F.Field.model c.args.values.now c.loop-j.j (omega arith)) in
     omega arith
 
 pub returns : goal.returns
 returns g c =
-    putting_all (putting_more c.loop-j.invariant (written end_marks) [] (lines_done g.F.Field.model c.args.values.now c.loop-j.j (omega arith)) c.put-last-line.ensures) refl
+    putting_all (putting_more c.loop-j.invariant (written end_marks) [] (lines_done g.F.Field.model c.args.values.now c.loop-j.j (omega arith)) c.put_last_line.ensures) refl

@@ -7,8 +7,8 @@ use Rattle.writer.proofs.Lengths.{text_fits}
 use Rattle.writer.proofs.Wholes.{claim_small, wrote}
 use Rattle.writer.proofs.writer.write.Goals as goal
 
-pub put-sheet-requires : goal.put-sheet-requires
-put-sheet-requires g c =
+pub put_sheet-requires : goal.put_sheet-requires
+put_sheet-requires g c =
     let fit : TenDigits c.args.terms = record { rows_fit = omega arith; columns_fit = omega arith; kind_fits = omega arith; first_fits = omega arith; second_fits = omega arith } in
     let small = subst (λ z. nat_abs z < 10 ^ 19) (sym (to_z-of_z w64 c.args.claim c.ranges.claim)) (claim_small c.args.claim c.ranges.claim.sfits) in
     let r = text_fits g.F.Field.model g.met.F.Field.lawful c.args.terms (to_z w64 (of_z w64 c.args.claim)) c.args.values.now fit small (omega arith) in
@@ -18,5 +18,5 @@ pub returns : goal.returns
 returns g c =
     let e = to_z-of_z w64 c.args.claim c.ranges.claim in
     let r = wrote g.F.Field.model c.args.terms c.args.claim c.args.values.now c.args.paper.now (omega arith) (omega arith)
-    (lays_as (ap (λ z. text g.F.Field.model c.args.terms z c.args.values.now) e) c.put-sheet.ensures) in
+    (lays_as (ap (λ z. text g.F.Field.model c.args.terms z c.args.values.now) e) c.put_sheet.ensures) in
     record { answer = r.0; paper = r.1 }
