@@ -7,20 +7,20 @@ use Rattle.board.specs.Banks.{kept_or}
 use Rattle.board.specs.Ledger.{added_count}
 use Rattle.host.proofs.listening.add_count.Goals as goal
 
-pub returns-in-default : goal.returns-in-default
-returns-in-default c =
+pub returns-in_default : goal.returns-in_default
+returns-in_default c =
     let e = slice_get-get_or c.args.bank.now.cells.now c.args.m.cell (pos 0) c.requires.within in
-    let h = c.in-default.ensures in
+    let h = c.in_default.ensures in
     let z : ◌≡◌ {A = ℕ} 0 1 = cc in
     absurd (omega arith)
 
-pub returns-then-unsigned-abs-limit : goal.returns-then-unsigned-abs-limit
-returns-then-unsigned-abs-limit c =
+pub returns-then-unsigned_abs-limit : goal.returns-then-unsigned_abs-limit
+returns-then-unsigned_abs-limit c =
     let e = slice_get-get_or c.args.bank.now.cells.now c.args.m.cell (pos 0) c.requires.within in
     let h = c.in-Some.ensures in
     let f : SFits w32 c.in-Some.count = search rules in
     let t = to_z-of_z w32 c.in-Some.count f in
-    let s : nat_abs (get_or c.args.bank.now.cells.now c.args.m.cell (pos 0)) ≡ c.unsigned-abs.result = cc c.unsigned-abs.ensures.value in
+    let s : nat_abs (get_or c.args.bank.now.cells.now c.args.m.cell (pos 0)) ≡ c.unsigned_abs.result = cc c.unsigned_abs.ensures.value in
     let over : c.args.limit < nat_abs (get_or c.args.bank.now.cells.now c.args.m.cell (pos 0)) = omega arith in
     let test = lt-leb _ _ over in
     record {
@@ -35,7 +35,7 @@ returns c =
     let h = c.in-Some.ensures in
     let f : SFits w32 c.in-Some.count = search rules in
     let t = to_z-of_z w32 c.in-Some.count f in
-    let s : nat_abs (get_or c.args.bank.now.cells.now c.args.m.cell (pos 0)) ≡ c.unsigned-abs.result = cc c.unsigned-abs.ensures.value in
+    let s : nat_abs (get_or c.args.bank.now.cells.now c.args.m.cell (pos 0)) ≡ c.unsigned_abs.result = cc c.unsigned_abs.ensures.value in
     let test = le-leb (nat_abs (get_or c.args.bank.now.cells.now c.args.m.cell (pos 0))) c.args.limit (omega arith) in
     let within = lt-ltb _ _ c.requires.within in
     let wide : SFits w64 c.args.m.amount = search rules in

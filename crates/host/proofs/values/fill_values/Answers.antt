@@ -20,7 +20,7 @@ loop-j-preserved g c =
     let j = c.loop-j.j in
     let tray = c.loop-j.tray in
     let old = c.args.tray.now in
-    let ys = c.fill-columns.new.sums in
+    let ys = c.fill_columns.new.sums in
     let a = c.rule-value.result in
     let inv = c.loop-j.invariant in
     let room = c.requires.room in
@@ -30,10 +30,10 @@ loop-j-preserved g c =
     let v-is : at + w - at ≡ v = omega arith in
     let part : length (take (at + w - at) (drop at tray)) ≡ v = omega (arith, length-take (at + w - at) (drop at tray), length-drop at tray, inv.0) in
     let now-is : ys ≡ columns F h v fs (node F j) =
-    c.fill-columns.ensures ∙ ap₂ (λ k n. columns F k n fs c.node-at-point.result) c.rows.ensures part ∙ ap (columns F h v fs) c.node-at-point.ensures in
+    c.fill_columns.ensures ∙ ap₂ (λ k n. columns F k n fs c.node_at-point.result) c.rows.ensures part ∙ ap (columns F h v fs) c.node_at-point.ensures in
     let size : length ys ≡ v = ap length now-is ∙ length-listed 0 v _ in
     let seen = between-put_mid at (at + w - at) tray ys (at + w) (omega (arith, inv.0)) (size ∙ sym v-is) in
-    let value : a ≡ q.rule h v (node F j) (columns F h v fs (node F j)) = c.rule-value.ensures ∙ ap₂ (q.rule h v) c.node-at-point.ensures (seen ∙ now-is) in
+    let value : a ≡ q.rule h v (node F j) (columns F h v fs (node F j)) = c.rule-value.ensures ∙ ap₂ (q.rule h v) c.node_at-point.ensures (seen ∙ now-is) in
     let t = turn (λ k. q.rule h v (node F k) (columns F h v fs (node F k))) s v j tray old ys a room inv.0 (omega arith) size inv.1 inv.2 value in
     let e = ap₂ (λ m n. set (put_mid m n tray ys) j a) s-is v-is in
     let u = subst (Turned (λ k. q.rule h v (node F k) (columns F h v fs (node F k))) s v j old ys) (sym e) t in
