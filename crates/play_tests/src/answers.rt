@@ -81,7 +81,7 @@ fn squares_rule_at_t(rt: HostRuntime) -> Result<(), Fail> {
     let grid = verifier.book().grid();
     let cells = sums.cells();
     assert!(rt; cells.len() == grid.columns() as usize);
-    let value = SquaresQuestion::<Extension<Mod65537>>::rule(&Squares, grid, t, cells);
+    let value = <Squares as Question<Extension<Mod65537>>>::rule(&Squares, grid, t, cells);
     assert_eq!(rt; (value.low(), value.high()), (33, 65525));
     Ok(())
 }
