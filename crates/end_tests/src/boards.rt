@@ -5,6 +5,7 @@ use extension::Extension;
 use field::Field;
 use prime::{Mersenne31, Mod65537};
 use std::process::Abort;
+use std::test::Fail;
 
 const STEPS: [Step; 3] = [(0, 3, 0, 3, 1), (8, 1, 0, 4, 2), (9, -2, 0, 6, 3)];
 

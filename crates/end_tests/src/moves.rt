@@ -4,6 +4,7 @@ use board::Bank;
 use field::Field;
 use prime::Mod65537;
 use std::process::Abort;
+use std::test::Fail;
 
 // A new host and a new box at the point 5 are told the moves. Then one cell of each bank is not 0: those given, with what
 // they hold.

@@ -1,5 +1,5 @@
 -- What follows from a field's laws: one differs from zero, inverses are unique, images of opposites and differences. Assumes nothing else.
-use Rattle.std.proofs.Common.{◌≡◌, ℕ, zero, suc, ◌-◌, ◌*◌, ◌%◌, ◌<◌, ◌≤◌, ◌≢◌, ℤ, pos, negsuc, ◌+ℤ◌, ◌-ℤ◌, neg_ℤ, nat_abs, sym, refl, ap, ◌∙◌, mod-eq_of_lt, mul-le-mul, arith}
+use Rattle.std.proofs.Common.{◌≡◌, ℕ, zero, suc, ◌*◌, ◌%◌, ◌<◌, ◌≤◌, ◌≢◌, ℤ, pos, negsuc, ◌+ℤ◌, ◌-ℤ◌, neg_ℤ, nat_abs, sym, refl, ap, ◌∙◌, mod-eq_of_lt, mul-le-mul, arith}
 use native.Mathlib.Decide.{dec_lt}
 use lib.IntN.{+ℤ_invr}
 use Rattle.field.specs.Field.{FieldModel, LawfulField, InRange}

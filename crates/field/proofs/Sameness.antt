@@ -1,5 +1,5 @@
 -- What sameness and the inverse say of elements. Assumes nothing.
-use Rattle.std.proofs.Common.{◌≡◌, ℕ, Bool, true, false, ◌&&◌, eqb, ◌≢◌, ◌⊎◌, Some, None, Option, sym, refl, ap, ◌∙◌, subst, ap₂, inl, inr, arith, eq-eqb, eqb-true}
+use Rattle.std.proofs.Common.{◌≡◌, ℕ, Bool, true, false, ◌&&◌, eqb, ◌≢◌, ◌⊎◌, Some, None, sym, refl, ap, ◌∙◌, ap₂, inl, inr, arith, eq-eqb, eqb-true}
 use borrow.Author.Tests.{clash}
 use Rattle.field.specs.Field.{FieldModel, LawfulField, Parts, same, unless, inverse}
 use Rattle.field.proofs.Consequences.{factor_zero}

@@ -1,6 +1,6 @@
 -- Commutative rings: an equation between two sums of products is proved by bringing both sides to one sorted form.
 -- Assumes nothing but the laws of the ring.
-use Rattle.std.proofs.Common.{◌≡◌, ℕ, zero, suc, ◌+◌, Bool, true, false, cond, not, ◌&&◌, T, eqb, ltb, List, [], ◌∷◌, get_or, sym, refl, ap, ◌∙◌, ap₂, eqb→eq}
+use Rattle.std.proofs.Common.{◌≡◌, ℕ, suc, Bool, true, false, cond, not, ◌&&◌, T, eqb, ltb, List, [], ◌∷◌, get_or, sym, refl, ap, ◌∙◌, ap₂, eqb→eq}
 use Rattle.field.specs.Field.{FieldModel, Ring}
 
 infixl 6 ◌⊕◌

@@ -2,6 +2,7 @@
 use crate::cases::*;
 use extension::Extension;
 use prime::{Mersenne31, Mod65537};
+use std::test::Fail;
 
 // t times t is 3.
 const CASES_65537: [Case; 8] = [

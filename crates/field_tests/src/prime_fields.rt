@@ -2,6 +2,7 @@
 use crate::cases::*;
 use field::BaseField;
 use prime::{Mersenne31, Mod65537};
+use std::test::Fail;
 
 const CASES_65537: [Case; 8] = [
     Case {

@@ -1,5 +1,5 @@
 -- What an answer comes to, step by step. Assumes nothing.
-use Rattle.std.proofs.Common.{◌≡◌, ℕ, suc, ◌+◌, ◌*◌, ◌<◌, ◌≤◌, Bool, true, false, cond, ◌&&◌, ltb, leb, List, ◌++◌, length, get_or, take, drop, ℤ, pos, nat_abs, Ok, Err, Result, sym, refl, ap, ◌∙◌, subst, ap₂, arith, length-take, le-ltb, lt-ltb, le-leb}
+use Rattle.std.proofs.Common.{◌≡◌, ℕ, suc, ◌+◌, ◌*◌, ◌<◌, ◌≤◌, Bool, true, false, cond, ◌&&◌, ltb, leb, List, ◌++◌, length, take, drop, ℤ, Ok, Err, Result, refl, ap, subst, ap₂, arith, length-take, le-ltb, lt-ltb, le-leb}
 use lib.Seq.{take-append_seam}
 use borrow.Author.Tests.{lt-leb}
 use Rattle.board.specs.declared.refusal.Refusal.{Refusal}
@@ -14,7 +14,7 @@ use Rattle.protocol.specs.Asking.{suits, terms_of, honest}
 use Rattle.writer.specs.Papers.{write_answer, paper_after}
 use Rattle.writer.specs.Texts.{text}
 use Rattle.host.specs.Rows.{Ranged}
-use Rattle.host.specs.Answering.{Answered, answer_ready, tray_filled, honest_sheet, answered_by, answered}
+use Rattle.host.specs.Answering.{answer_ready, tray_filled, answered_by, answered}
 
 module _ {K : Type 0} (F : FieldModel K) (h v : ℕ) (bank : List ℤ) (q : QuestionModel K) (tray : List K) (paper : List ℕ) where
   -- the counts

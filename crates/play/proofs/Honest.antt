@@ -1,13 +1,12 @@
 -- A trial in order ends with the true count. It follows from the promise: the trial's two runs are runs of a host and of a box told the same moves.
 -- Assumes nothing but the laws of the field.
-use Rattle.std.proofs.Common.{◌≡◌, ℕ, suc, ◌+◌, ◌*◌, ◌≤◌, true, cond, List, [], ◌∷◌, ◌++◌, map, length, take, drop, ℤ, Ok, Err, Result, sym, refl, ap, ◌∙◌, ap₂, arith, length-append, le-leb}
+use Rattle.std.proofs.Common.{◌≡◌, ℕ, suc, ◌+◌, ◌*◌, ◌≤◌, true, cond, List, [], ◌∷◌, ◌++◌, map, length, drop, ℤ, Ok, Err, refl, ap, ◌∙◌, arith, length-append, le-leb}
 use Rattle.board.specs.declared.game.Move.{Move}
-use Rattle.board.specs.declared.refusal.Refusal.{Refusal}
 use Rattle.board.specs.declared.refusal.Refusal.TheVariants.{BankShort, GridOutside}
 use Rattle.board.specs.Banks.{room_for}
 use Rattle.board.specs.Books.{open_answer}
 use Rattle.board.specs.Grids.{grid_allowed}
-use Rattle.field.specs.Field.{FieldModel, LawfulField}
+use Rattle.field.specs.Field.{FieldModel}
 use Rattle.board.specs.Ledger.{ledger}
 use Rattle.polynomial.specs.Columns.{columns}
 use Rattle.polynomial.specs.Interpolation.{node}
@@ -21,8 +20,8 @@ use Rattle.verifier.specs.Notes.{VerifierState, verifier_noted, verifier_after}
 use Rattle.promise.specs.Claims.{true_count}
 use Rattle.promise.specs.Ends.{HostOpening, host_end, VerifierOpening, verifier_end}
 use Rattle.promise.specs.Promise.{Promised}
-use Rattle.promise.specs.Runs.{Request, noting, sealing, listening, sealed, begun, after}
-use Rattle.promise.specs.Sealed.{SealedHost, SealedVerifier, HonestAnswer}
+use Rattle.promise.specs.Runs.{noting, sealing, listening, sealed, begun, after}
+use Rattle.promise.specs.Sealed.{SealedHost, SealedVerifier}
 use Rattle.promise.specs.Shapes.{whole, complete}
 use Rattle.promise.proofs.Shapes.{runs_of}
 use Rattle.play.specs.Trials.{host_given, judged_sheet, told_host, told_box, box_trial, host_trial, trial, InOrder}

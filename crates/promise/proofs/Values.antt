@@ -1,6 +1,6 @@
 -- Values against counts: values unlike the honest ones pass at few points, a false claim has such values, and honest values pass everywhere.
 -- Assumes nothing but the laws of the field and of the question.
-use Rattle.std.proofs.Common.{◌≡◌, ℕ, zero, suc, ◌+◌, ◌-◌, ◌%◌, ◌<◌, ◌≤◌, ◌≢◌, List, [], ◌∷◌, length, get_or, take, ℤ, pos, negsuc, ◌-ℤ◌, nat_abs, ◌≤ℤ◌, sym, refl, ap, ◌∙◌, ap₂, inl, inr, mod-eq_of_lt, arith}
+use Rattle.std.proofs.Common.{◌≡◌, ℕ, suc, ◌+◌, ◌%◌, ◌<◌, ◌≤◌, ◌≢◌, List, [], ◌∷◌, length, get_or, take, ℤ, pos, negsuc, ◌-ℤ◌, nat_abs, ◌≤ℤ◌, sym, refl, ap, ◌∙◌, ap₂, inl, inr, mod-eq_of_lt, arith}
 use Rattle.std.proofs.lemmas.Int.{ints}
 use Rattle.field.specs.Field.{FieldModel, LawfulField, InRange, modulo}
 use Rattle.field.proofs.Consequences.{image-sub}

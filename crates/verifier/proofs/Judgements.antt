@@ -6,11 +6,10 @@ use Rattle.board.specs.declared.refusal.Refusal.{Refusal}
 use Rattle.board.specs.declared.refusal.Refusal.TheVariants.{BankShort, QuestionUnfit, TrayShort}
 use Rattle.board.specs.Banks.{filled}
 use Rattle.field.specs.Field.{FieldModel}
-use Rattle.sheet.specs.declared.terms.Terms.{Terms}
-use Rattle.sheet.specs.Readings.{reading, claim_of, tray_of, read_answer, tray_after}
+use Rattle.sheet.specs.Readings.{claim_of, tray_of, read_answer, tray_after}
 use Rattle.question.specs.Question.{QuestionModel}
 use Rattle.protocol.specs.Asking.{suits, terms_of, read_sheet}
-use Rattle.verifier.specs.Judging.{Judgement, judge_ready, weighed, found, tray_left, settled_by, judged}
+use Rattle.verifier.specs.Judging.{judge_ready, weighed, tray_left, settled_by, judged}
 
 module _ {K : Type 0} (F : FieldModel K) (h v : ℕ) (r : K) (bank : List K) (q : QuestionModel K) (sheet : List ℕ) (tray : List K) where
   -- a judgement that is settled before the sheet is read

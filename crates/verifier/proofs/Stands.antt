@@ -1,6 +1,6 @@
 -- A box stands as its ledger does: its standing is the ledger's, and its bank begins with the columns of the ledger's counts at its point.
 -- Assumes nothing but the laws of the field.
-use Rattle.std.proofs.Common.{◌≡◌, ℕ, zero, suc, ◌+◌, ◌*◌, ◌<◌, ◌≤◌, true, cond, leb, List, [], ◌∷◌, length, get_or, take, drop, set, replicate, ℤ, pos, nat_abs, Ok, Err, Result, sym, refl, ap, ◌∙◌, subst, ap₂, mod-lt, arith, length-set, get_or-take, drop-set-lt, le-ltb, leb-true}
+use Rattle.std.proofs.Common.{◌≡◌, ℕ, zero, suc, ◌+◌, ◌*◌, ◌<◌, ◌≤◌, true, cond, List, [], ◌∷◌, length, get_or, take, drop, set, replicate, pos, Ok, Err, Result, sym, refl, ap, ◌∙◌, subst, ap₂, mod-lt, arith, length-set, get_or-take, drop-set-lt, le-ltb}
 use lib.Seq.{take-set-lt}
 use Rattle.board.specs.declared.game.Move.{Move}
 use Rattle.board.specs.declared.refusal.Refusal.{Refusal}

@@ -1,6 +1,6 @@
-use Rattle.std.proofs.Common.{◌≡◌, ◌+◌, ◌<◌, ◌≤◌, length, get_or, set, pos, sym, refl, ap, ◌∙◌, ap₂, arith, w32, to_z, of_z, rules}
+use Rattle.std.proofs.Common.{◌≡◌, ◌≤◌, length, get_or, pos, ap, ◌∙◌, arith, w32}
 use Rattle.std.proofs.lemmas.Int.{to_z-of_z}
-use Rattle.host.proofs.Steps.{added_first, added_more, added_all, ranged_fits}
+use Rattle.host.proofs.Steps.{added_more, added_all, ranged_fits}
 use Rattle.host.proofs.columns.add_row.Goals as goal
 
 pub loop-y-preserved : goal.loop-y-preserved

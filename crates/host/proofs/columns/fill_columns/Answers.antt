@@ -1,4 +1,4 @@
-use Rattle.std.proofs.Common.{◌≡◌, suc, ◌+◌, ◌-◌, ◌*◌, ◌<◌, ◌≤◌, length, get_or, take, drop, set, replicate, sym, refl, ap, ◌∙◌, ap₂, arith, rules}
+use Rattle.std.proofs.Common.{◌≡◌, suc, ◌+◌, ◌-◌, ◌*◌, length, take, drop, replicate, ap, ◌∙◌, ap₂, arith, rules}
 use lib.ListN.{length-replicate}
 use Rattle.host.proofs.Steps.{filled_whole, columns_none, columns_from, columns_more, row_at, row_end, row_length, ranged_row}
 use Rattle.host.specs.Rows.{added_row}

@@ -1,4 +1,4 @@
-use Rattle.std.proofs.Common.{◌≡◌, ◌+◌, ◌≤◌, get_or, pos, nat_abs, ap, ◌∙◌, arith, take_all, w32, SFits, rules}
+use Rattle.std.proofs.Common.{◌≡◌, get_or, pos, nat_abs, ap, ◌∙◌, arith, take_all, w32, SFits, rules}
 use Rattle.std.proofs.lemmas.Int.{to_z-of_z}
 use Rattle.board.specs.Ledger.{abs_sum}
 use Rattle.board.proofs.Ledgers.{abs_more}

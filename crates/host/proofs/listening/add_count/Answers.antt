@@ -1,4 +1,4 @@
-use Rattle.std.proofs.Common.{◌≡◌, ℕ, ◌<◌, ◌≤◌, cond, get_or, set, ℤ, pos, ◌+ℤ◌, nat_abs, Ok, Err, sym, refl, ap, ◌∙◌, ap₂, arith, w32, w64, SFits, to_z, of_z, rules, lt-ltb, le-leb}
+use Rattle.std.proofs.Common.{◌≡◌, ℕ, ◌<◌, ◌≤◌, cond, get_or, set, pos, ◌+ℤ◌, nat_abs, Ok, Err, sym, refl, ap, ◌∙◌, ap₂, arith, w32, w64, SFits, to_z, of_z, rules, lt-ltb, le-leb}
 use borrow.Author.Tests.{lt-leb}
 use Rattle.std.proofs.lemmas.Option.{slice_get-get_or}
 use Rattle.std.proofs.lemmas.Int.{to_z-of_z, ints}

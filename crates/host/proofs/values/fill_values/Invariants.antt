@@ -1,4 +1,4 @@
-use Rattle.std.proofs.Common.{◌≡◌, suc, ◌+◌, ◌-◌, ◌<◌, ◌≤◌, ◌++◌, length, take, drop}
+use Rattle.std.proofs.Common.{◌≡◌, suc, ◌+◌, ◌-◌, ◌<◌, ◌++◌, length, take, drop}
 use Rattle.polynomial.specs.Interpolation.{node}
 use Rattle.polynomial.specs.Lists.{listed}
 use Rattle.polynomial.specs.Columns.{columns}

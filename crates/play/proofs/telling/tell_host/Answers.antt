@@ -1,6 +1,6 @@
-use Rattle.std.proofs.Common.{◌≡◌, suc, get_or, drop, pos, sym, ap, ◌∙◌, ap₂, add-one, drop_of_length-le, drop-cons}
+use Rattle.std.proofs.Common.{◌≡◌, get_or, drop, pos, sym, ap, ◌∙◌, ap₂, add-one, drop_of_length-le, drop-cons}
 use Rattle.board.specs.declared.game.Move.{Move}
-use Rattle.host.specs.Notes.{HostState, host_after, host_noted}
+use Rattle.host.specs.Notes.{host_after, host_noted}
 use Rattle.play.specs.States.{host_state}
 use Rattle.play.proofs.telling.tell_host.Goals as goal
 

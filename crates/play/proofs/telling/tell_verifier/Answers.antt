@@ -1,6 +1,6 @@
-use Rattle.std.proofs.Common.{◌≡◌, suc, get_or, drop, pos, sym, ap, ◌∙◌, ap₂, add-one, drop_of_length-le, drop-cons}
+use Rattle.std.proofs.Common.{◌≡◌, get_or, drop, pos, sym, ap, ◌∙◌, ap₂, add-one, drop_of_length-le, drop-cons}
 use Rattle.board.specs.declared.game.Move.{Move}
-use Rattle.verifier.specs.Notes.{VerifierState, verifier_after, verifier_noted}
+use Rattle.verifier.specs.Notes.{verifier_after, verifier_noted}
 use Rattle.play.specs.States.{verifier_state}
 use Rattle.play.proofs.telling.tell_verifier.Goals as goal
 

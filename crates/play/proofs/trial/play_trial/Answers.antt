@@ -3,12 +3,12 @@ use Rattle.std.proofs.lemmas.Result.{err_from_is_err_and}
 use Rattle.board.specs.Banks.{filled, kept_or}
 use Rattle.board.specs.Books.{standing}
 use Rattle.host.specs.Calls.{host_open_answer}
-use Rattle.host.specs.Notes.{HostState, host_opened, host_after}
+use Rattle.host.specs.Notes.{host_opened, host_after}
 use Rattle.verifier.specs.Calls.{verifier_open_answer}
-use Rattle.verifier.specs.Notes.{VerifierState, verifier_opened, verifier_after}
+use Rattle.verifier.specs.Notes.{verifier_opened, verifier_after}
 use Rattle.promise.proofs.Promise.{promise}
 use Rattle.play.specs.States.{host_state, verifier_state, sealed_host, sealed_verifier}
-use Rattle.play.specs.Trials.{exchanged, told_host, told_box, open_trial, box_trial, host_trial, trial}
+use Rattle.play.specs.Trials.{exchanged, told_host, told_box, box_trial, host_trial}
 use Rattle.play.proofs.Honest.{honest_trial}
 use Rattle.play.proofs.trial.play_trial.Goals as goal
 

@@ -1,4 +1,4 @@
-use Rattle.std.proofs.Common.{◌+◌, ◌-◌, ◌*◌, cond, drop, Some, None, sym, ap, ◌∙◌, arith, false-eqb}
+use Rattle.std.proofs.Common.{◌+◌, ◌*◌, cond, drop, Some, None, sym, ap, ◌∙◌, arith, false-eqb}
 use Rattle.std.specs.Char.{is_ascii_digit}
 use Rattle.token.specs.Tokens.{value_after}
 use Rattle.token.proofs.Runs.{made_of_no, made_of_yes, each_next, each_end, value_more, value_end, grown, room, room_all}

@@ -1,4 +1,4 @@
-use Rattle.std.proofs.Common.{◌≡◌, ℕ, ◌*◌, ◌<◌, ◌≤◌, cond, length, get_or, set, Ok, Err, sym, ap, ◌∙◌, ap₂, mod-lt, div-lt_iff_lt-mul, arith, w32, w64, SFits, to_z, of_z, rules, lt-ltb}
+use Rattle.std.proofs.Common.{◌≡◌, ℕ, ◌<◌, cond, length, get_or, set, Ok, Err, ap, ◌∙◌, ap₂, mod-lt, div-lt_iff_lt-mul, arith, w32, w64, SFits, to_z, of_z, rules, lt-ltb}
 use Rattle.std.proofs.lemmas.Option.{slice_get-get_or}
 use Rattle.std.proofs.lemmas.Int.{to_z-of_z, ints}
 use Rattle.board.specs.declared.refusal.Refusal.TheVariants.{BankShort}

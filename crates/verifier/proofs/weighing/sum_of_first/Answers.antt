@@ -1,4 +1,4 @@
-use Rattle.std.proofs.Common.{◌-◌, take, ap, ◌∙◌, arith, take_all, rules}
+use Rattle.std.proofs.Common.{◌-◌, take, ap, ◌∙◌, take_all, rules}
 use native.Mathlib.Nat.{sub-zero}
 use Rattle.polynomial.specs.Sums.{list_sum}
 use Rattle.polynomial.proofs.Sums.{list_sum_more}

@@ -1,4 +1,4 @@
-use Rattle.std.proofs.Common.{cond, sym, refl, ap, ◌∙◌, rules, le-ltb}
+use Rattle.std.proofs.Common.{sym, refl, rules}
 use Rattle.std.proofs.lemmas.List.{set_past}
 use Rattle.board.proofs.bank.Bank.put.Goals as goal
 
