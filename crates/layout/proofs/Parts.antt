@@ -1,6 +1,6 @@
 -- Reading accepts just the sheets, with values given by their parts. Assumes nothing.
 use Rattle.std.proofs.Common.{◌≡◌, ℕ, zero, suc, ◌<◌, List, [], ◌∷◌, ◌++◌, length, get_or, drop, replicate, ℤ, pos, negsuc, ◌-ℤ◌, ◌≤ℤ◌, Ok, Err, Result, sym, refl, ap, ◌∙◌, subst, append-nil, arith}
-use Rattle.std.specs.List.{AllByRecursion as All}
+use Rattle.std.specs.List.{AllByRecursion}
 use Rattle.std.proofs.lemmas.Int.{ints}
 use Rattle.std.proofs.lemmas.Bool.Decides.{nat_tests}
 use Rattle.board.specs.declared.refusal.Refusal.{Refusal}
@@ -45,7 +45,7 @@ record Lined (p e n : ℕ) (zs : List ℤ) : Type 0 where
   values : List (ℕ × ℕ)
   are : zs ≡ flat values
   count : length values ≡ n
-  parts : All (IsPart p e) values
+  parts : AllByRecursion (IsPart p e) values
 
 lined : (p e j n : ℕ) (zs : List ℤ) → Kept (lines p e j n) zs → Lined p e n zs
 lined p e j zero zs k = record { values = []; are = k; count = refl; parts = tt }
@@ -62,7 +62,7 @@ lined p e j (suc n) (low ∷ high ∷ zs) k =
       parts = ((l.small, high_fits p e (high_limit p e) l.value h.value refl l.small h.small, high_only p e (high_limit p e) h.value refl h.small), r.parts);
     }
 
-kept_lines : (p e j n : ℕ) (vs : List (ℕ × ℕ)) → length vs ≡ n → All (IsPart p e) vs → Kept (lines p e j n) (flat vs)
+kept_lines : (p e j n : ℕ) (vs : List (ℕ × ℕ)) → length vs ≡ n → AllByRecursion (IsPart p e) vs → Kept (lines p e j n) (flat vs)
 kept_lines p e j zero [] c ps = refl
 kept_lines p e j zero (v ∷ vs) c ps = absurd (omega arith)
 kept_lines p e j (suc n) [] c ps = absurd (omega arith)
@@ -84,7 +84,7 @@ pub record PartSheet (p e : ℕ) (t : Terms) (c : ℤ) (vs : List (ℕ × ℕ)) 
   pub least : t.least ≤ℤ c
   pub greatest : c ≤ℤ t.greatest
   pub count : length vs ≡ suc t.degree
-  pub parts : All (IsPart p e) vs
+  pub parts : AllByRecursion (IsPart p e) vs
 
 -- the marks behind others are laid out in what is left of the bytes
 layout_behind : (ms ns : List Mark) (left bs : List ℕ) → Layout (ms ++ ns) left bs → (mid : List ℕ) × Layout ns left mid
@@ -120,7 +120,7 @@ module _ (p e : ℕ) (t : Terms) (bs : List ℕ) where
         least = subst (λ z. t.least ≤ℤ z) same-c k.0;
         greatest = subst (λ z. z ≤ℤ t.greatest) same-c k.1;
         count = ap length (sym are) ∙ r.count;
-        parts = subst (All (IsPart p e)) are r.parts;
+        parts = subst (AllByRecursion (IsPart p e)) are r.parts;
       }
 
   says : (c : ℤ) (vs : List (ℕ × ℕ)) (o : Passed) → Traced (due p e t) [] (cursor_start bs) o → concluded o ≡ Ok (c, vs) → PartSheet p e t c vs bs

@@ -1,7 +1,7 @@
 -- Reading accepts just the sheets, and tells what they state, over every lawful field. Assumes nothing else.
 use Rattle.std.proofs.Common.{◌≡◌, ℕ, List, [], ◌∷◌, length, ℤ, Ok, Err, Result, sym, refl, ap, ◌∙◌, subst, arith}
 use lib.ListN.{length-map}
-use Rattle.std.specs.List.{AllByRecursion as All}
+use Rattle.std.specs.List.{AllByRecursion}
 use Rattle.board.specs.declared.refusal.Refusal.{Refusal}
 use Rattle.field.specs.Field.{FieldModel, LawfulField}
 use Rattle.sheet.specs.Readings.{parsed, elements, valued}
@@ -20,7 +20,7 @@ module _ {K : Type 0} (F : FieldModel K) where
   valued_from c xs (Ok v) e = record { values = v.1; parsed_is = ap (λ w. Ok (w.0, v.1)) (same_ok e); are = sym (ap (λ w. w.1) (same_ok e)) }
   valued_from c xs (Err r) e = absurd (let q : ◌≡◌ {A = ℕ} 0 1 = cc in omega arith)
 
-  all_made : (vs : List (ℕ × ℕ)) → All (IsPart F.characteristic F.degree) vs → All (Made F) (elements F vs)
+  all_made : (vs : List (ℕ × ℕ)) → AllByRecursion (IsPart F.characteristic F.degree) vs → AllByRecursion (Made F) (elements F vs)
   all_made [] ps = tt
   all_made (v ∷ vs) ps = (record { low = v.0; high = v.1; parts = ps.0; is = refl }, all_made vs ps.1)
 
@@ -32,11 +32,11 @@ module _ {K : Type 0} (F : FieldModel K) where
         least = s.least;
         greatest = s.greatest;
         count = ap length v.are ∙ length-map v.values _ ∙ s.count;
-        made = subst (All (Made F)) (sym v.are) (all_made v.values s.parts);
+        made = subst (AllByRecursion (Made F)) (sym v.are) (all_made v.values s.parts);
       }
 
 module _ {K : Type 0} (F : FieldModel K) (L : LawfulField F) where
-  parts_back : (vs : List (ℕ × ℕ)) → All (IsPart F.characteristic F.degree) vs → parts_of F (elements F vs) ≡ vs
+  parts_back : (vs : List (ℕ × ℕ)) → AllByRecursion (IsPart F.characteristic F.degree) vs → parts_of F (elements F vs) ≡ vs
   parts_back [] ps = refl
   parts_back (v ∷ vs) ps = λ i. (L.parts.low-make v.0 v.1 ps.0 i, L.parts.high-make v.0 v.1 ps.0 i) ∷ parts_back vs ps.1 i
 
@@ -44,7 +44,7 @@ module _ {K : Type 0} (F : FieldModel K) (L : LawfulField F) where
   elements_back [] = refl
   elements_back (x ∷ xs) = λ i. L.parts.make_parts x i ∷ elements_back xs i
 
-  pub all_parts : (xs : List K) → All (IsPart F.characteristic F.degree) (parts_of F xs)
+  pub all_parts : (xs : List K) → AllByRecursion (IsPart F.characteristic F.degree) (parts_of F xs)
   all_parts [] = tt
   all_parts (x ∷ xs) = (L.parts.within x, all_parts xs)
 

@@ -1,6 +1,6 @@
 -- Which bytes are a sheet, and what reading has to do with them. Assumes nothing.
 use Rattle.std.specs.Prelude.{◌≡◌, ℕ, suc, List, [], length, ℤ, ◌≤ℤ◌, Ok}
-use Rattle.std.specs.List.{AllByRecursion as All}
+use Rattle.std.specs.List.{AllByRecursion}
 use Rattle.field.specs.Field.{FieldModel, PartsOf}
 use Rattle.sheet.specs.declared.terms.Terms.{Terms}
 use Rattle.sheet.specs.Readings.{reading}
@@ -31,7 +31,7 @@ pub record Allowed {K : Type 0} (F : FieldModel K) (t : Terms) (c : ℤ) (xs : L
   pub least : t.least ≤ℤ c
   pub greatest : c ≤ℤ t.greatest
   pub count : length xs ≡ suc t.degree
-  pub made : All (Made F) xs
+  pub made : AllByRecursion (Made F) xs
 
 -- whatever the terms, a reading gives a claim between the limits, and degree + 1 values made of parts
 abbrev pub ReadsAllowed : {K : Type 0} → FieldModel K → Type 0
