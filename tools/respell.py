@@ -3,7 +3,8 @@
 
 usage: python3 tools/respell.py        at the top of the repository, once, after the toolchain's own porting script
 
-`respell.txt` beside this file has a line for each name: the old one, the new one. Functions and definitions that were in
+`respell.txt` beside this file has a line for each name that is turned here: the old one, the new one. (The porting script
+had turned those already that the library spelled alike.) Functions and definitions that were in
 camel case, and plain words that were joined by a dash, are in snake case; a dash stays where it joins the names of two
 operations. Names are turned as whole words, in specifications, proofs, clauses and must-fail edits, and in pages between
 backticks. Text in quotes stays. In comments only names in camel case are turned, since a dash may be English there.

@@ -15,15 +15,15 @@ pub struct HostPair<F> {
 }
 
 // What opening or telling a move came to, in the product and in the reference.
-pub(crate) fn found<T>(res: &Result<T, Refusal>) -> Outcome {
-    match res {
+pub(crate) fn found<T>(answer: &Result<T, Refusal>) -> Outcome {
+    match answer {
         Ok(_) => Outcome::given(0, 0),
         Err(refusal) => Outcome::refused(*refusal),
     }
 }
 
-pub(crate) fn wanted<T>(res: &Result<T, Stop>) -> Outcome {
-    match res {
+pub(crate) fn wanted<T>(answer: &Result<T, Stop>) -> Outcome {
+    match answer {
         Ok(_) => Outcome::given(0, 0),
         Err(stop) => Outcome::stopped(*stop),
     }

@@ -14,15 +14,15 @@ use sheet::read_sheet;
 use std::alloc::AllocError;
 
 // A claim, or a refusal.
-fn claim_found(res: Result<i64, Refusal>) -> Outcome {
-    match res {
+fn claim_found(answer: Result<i64, Refusal>) -> Outcome {
+    match answer {
         Ok(claim) => Outcome::given(claim, 0),
         Err(refusal) => Outcome::refused(refusal),
     }
 }
 
-fn claim_wanted(res: Result<i64, Stop>) -> Outcome {
-    match res {
+fn claim_wanted(answer: Result<i64, Stop>) -> Outcome {
+    match answer {
         Ok(claim) => Outcome::given(claim, 0),
         Err(stop) => Outcome::stopped(stop),
     }

@@ -1,8 +1,7 @@
 // Telling moves to an end, one after the other.
 ghost use Rattle.std.specs.Prelude.{◌≡◌};
-ghost use Rattle.board.specs.Books.{standing};
-ghost use Rattle.host.specs.Notes.{HostState, host_after};
-ghost use Rattle.verifier.specs.Notes.{VerifierState, verifier_after};
+ghost use Rattle.host.specs.Notes.{host_after};
+ghost use Rattle.verifier.specs.Notes.{verifier_after};
 ghost use Rattle.play.specs.States.{host_state, verifier_state};
 
 use board::{Bank, Move};

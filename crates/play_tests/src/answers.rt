@@ -36,7 +36,7 @@ fn claimed<Q: Question<Mod65537>>(question: &Q, tray: &mut [Mod65537], paper: &m
 }
 
 fn check_claim<Q: Question<Mod65537>>(rt: &impl Abort, question: &Q, claim: i64) {
-    let zero = <prime::residue::Residue<65537> as Field>::zero();
+    let zero = Mod65537::zero();
     assert_eq!(rt; claimed(question, &mut [zero; 11], &mut [0; 9216]), claim);
 }
 
@@ -58,7 +58,7 @@ fn true_counts(rt: HostRuntime) {
 
 #[test]
 fn buffers_just_long_enough(rt: HostRuntime) {
-    let zero = <prime::residue::Residue<65537> as Field>::zero();
+    let zero = Mod65537::zero();
     assert_eq!(rt; claimed(&Squares, &mut [zero; 11], &mut [0; 9216]), 14);
     assert_eq!(rt; claimed(&Squares, &mut [zero; 10], &mut [0; 9216]), -1021);
     assert_eq!(rt; claimed(&Squares, &mut [zero; 11], &mut [0; 9215]), -1022);

@@ -76,13 +76,13 @@ fn judged<F: Field>(
 
 // The same over 65,537, with a bank one cell longer than needed and a tray just long enough.
 fn at(point: i32, sheet: &[u8]) -> (i64, i64) {
-    let zero = <prime::residue::Residue<65537> as Field>::zero();
+    let zero = Mod65537::zero();
     if point < 0 || point > 1000 {
         return (0, 0);
     }
     judged(
         2,
-        <prime::residue::Residue<65537> as Field>::image(point),
+        Mod65537::image(point),
         sheet,
         &mut [zero; 9],
         &mut [zero; 3],
@@ -105,9 +105,9 @@ fn worked_sheets_modulo_65537(rt: HostRuntime) {
 
 #[test]
 fn worked_sheets_over_other_fields(rt: HostRuntime) {
-    let zero = <prime::residue::Residue<2147483647> as Field>::zero();
-    let five = <prime::residue::Residue<2147483647> as Field>::image(5);
-    let two = <prime::residue::Residue<2147483647> as Field>::image(2);
+    let zero = Mersenne31::zero();
+    let five = Mersenne31::image(5);
+    let two = Mersenne31::image(2);
     assert_eq!(rt;
         judged(2, five, MERSENNE_TRUE, &mut [zero; 8], &mut [zero; 3]),
         (14, 14)
@@ -138,8 +138,8 @@ fn worked_sheets_over_other_fields(rt: HostRuntime) {
 
 #[test]
 fn one_row_and_short_trays(rt: HostRuntime) {
-    let zero = <prime::residue::Residue<65537> as Field>::zero();
-    let five = <prime::residue::Residue<65537> as Field>::image(5);
+    let zero = Mod65537::zero();
+    let five = Mod65537::image(5);
     assert_eq!(rt;
         judged(1, five, ONE_ROW_TRUE, &mut [zero; 8], &mut [zero; 1]),
         (9, 9)

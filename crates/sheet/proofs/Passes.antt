@@ -37,12 +37,14 @@ pub high_only : (p e h high : ℕ) → h ≡ high_limit p e → high < h → e �
 high_only p e h high is below one = grind (arith, nat_tests)
 
 -- the first two lines, part by part
-module _ (p e : ℕ) (t : Terms) (lo hi : ℤ) (lo-is : lo ≡ t.least) (hi-is : hi ≡ t.greatest) (kept : List ℤ) (s₀ s₁ : Cursor) (began : Ok (kept, s₁) ≡ pass (front p e t) kept s₀) where
-  at_claim : pass (within lo hi fault.Claim ∷ form_end) kept s₁ ≡ pass (claim_due p e t) kept s₀
-  at_claim = (λ i. pass (within (lo-is i) (hi-is i) fault.Claim ∷ form_end) kept s₁) ∙ on_first (front p e t) (within t.least t.greatest fault.Claim ∷ form_end) kept s₀ kept s₁ began
+module _ (p e : ℕ) (t : Terms) (lo hi : ℤ) (kept : List ℤ) (s₀ s₁ : Cursor) (began : Ok (kept, s₁) ≡ pass (front p e t) kept s₀) where
+  at_claim : lo ≡ t.least → hi ≡ t.greatest → pass (within lo hi fault.Claim ∷ form_end) kept s₁ ≡ pass (claim_due p e t) kept s₀
+  at_claim lo_is hi_is =
+      (λ i. pass (within (lo_is i) (hi_is i) fault.Claim ∷ form_end) kept s₁) ∙ on_first (front p e t) (within t.least t.greatest fault.Claim ∷ form_end) kept s₀ kept s₁ began
 
-  pub stop_claim : (r : Refusal) → Err r ≡ step (within lo hi fault.Claim) kept s₁ → Err r ≡ pass (claim_due p e t) kept s₀
-  stop_claim r x = stop_step (within lo hi fault.Claim) form_end kept s₁ r x ∙ at_claim
+  pub stop_claim : (r : Refusal) → Err r ≡ step (within lo hi fault.Claim) kept s₁ → lo ≡ t.least → hi ≡ t.greatest → Err r ≡ pass (claim_due p e t) kept s₀
+  stop_claim r x lo_is hi_is = stop_step (within lo hi fault.Claim) form_end kept s₁ r x ∙ at_claim lo_is hi_is
 
-  pub at_form_end : (c : ℤ) (s₂ : Cursor) → Ok (kept ++ c ∷ [], s₂) ≡ step (within lo hi fault.Claim) kept s₁ → pass form_end (kept ++ c ∷ []) s₂ ≡ pass (claim_due p e t) kept s₀
-  at_form_end c s₂ x = on_step (within lo hi fault.Claim) form_end kept s₁ (kept ++ c ∷ []) s₂ x ∙ at_claim
+  pub at_form_end : (c : ℤ) (s₂ : Cursor) → Ok (kept ++ c ∷ [], s₂) ≡ step (within lo hi fault.Claim) kept s₁ → lo ≡ t.least → hi ≡ t.greatest
+      → pass form_end (kept ++ c ∷ []) s₂ ≡ pass (claim_due p e t) kept s₀
+  at_form_end c s₂ x lo_is hi_is = on_step (within lo hi fault.Claim) form_end kept s₁ (kept ++ c ∷ []) s₂ x ∙ at_claim lo_is hi_is

@@ -1,6 +1,7 @@
 // The worked sheet, cut, changed and damaged.
 use crate::tables::{CHANGES, CUTS, SHEET};
 use field::Field;
+use prime::Mod65537;
 use sheet::{Terms, read_sheet};
 use std::process::Abort;
 use std::test::Fail;
@@ -22,7 +23,7 @@ fn check_refused(
     line: usize,
     place: usize,
 ) -> Result<(), Fail> {
-    let mut tray = [<prime::residue::Residue<65537> as Field>::one(); 4];
+    let mut tray = [Mod65537::one(); 4];
     match read_sheet(sheet, &TERMS, &mut tray) {
         Ok(_) => Err(Fail::new("a damaged sheet was read")),
         Err(refusal) => {
@@ -37,7 +38,7 @@ fn check_refused(
 
 // A sheet reads as the worked one.
 fn check_read(rt: &impl Abort, sheet: &[u8]) -> Result<(), Fail> {
-    let mut tray = [<prime::residue::Residue<65537> as Field>::one(); 4];
+    let mut tray = [Mod65537::one(); 4];
     match read_sheet(sheet, &TERMS, &mut tray) {
         Ok(claim) => {
             assert_eq!(rt; claim, 14);

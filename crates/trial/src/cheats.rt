@@ -45,11 +45,11 @@ const TEXT_BEHIND: &[u8] =
 
 // A box at a point that followed the game judges a sheet for the squares.
 fn judge_at(rt: &impl Print, what: &str, point: u32, sheet: &[u8]) -> io::Result<()> {
-    let mut sums = [<prime::residue::Residue<65537> as Field>::zero(); 8];
+    let mut sums = [Mod65537::zero(); 8];
     let mut sums = Bank::new(&mut sums);
-    let mut tray = [<prime::residue::Residue<65537> as Field>::zero(); 3];
+    let mut tray = [Mod65537::zero(); 3];
     print!(rt; "  {what}, at point {point}: ")?;
-    let secret = <prime::residue::Residue<65537> as Field>::image((point % 65537) as i32);
+    let secret = Mod65537::image((point % 65537) as i32);
     match verifier::Listening::<Mod65537>::open(2, 8, secret, &mut sums) {
         Ok(mut verifier) => {
             for m in MOVES.iter() {

@@ -51,7 +51,7 @@ const MOVES: [Move; 7] = [
 
 pub fn play(rt: &impl Print) -> anyhow::Result<()> {
     let mut counts = [7i32; 16];
-    let mut sums = [<prime::residue::Residue<65537> as Field>::one(); 8];
+    let mut sums = [Mod65537::one(); 8];
     let mut counts = Bank::new(&mut counts);
     let mut sums = Bank::new(&mut sums);
     println!(rt; "A game of 2 rows and 8 columns over the residues modulo 65537, secret point 5")?;
@@ -61,7 +61,7 @@ pub fn play(rt: &impl Print) -> anyhow::Result<()> {
     let Ok(mut verifier) = verifier::Listening::<Mod65537>::open(
         2,
         8,
-        <prime::residue::Residue<65537> as Field>::image(5),
+        Mod65537::image(5),
         &mut sums,
     ) else {
         return Err(anyhow!("the box did not open"));

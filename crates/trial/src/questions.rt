@@ -48,7 +48,7 @@ fn ask<Q: Question<Mod65537>>(
     sums: &Bank<'_, Mod65537>,
     question: &Q,
 ) -> io::Result<()> {
-    let mut tray = [<prime::residue::Residue<65537> as Field>::zero(); 11];
+    let mut tray = [Mod65537::zero(); 11];
     let mut paper = [0u8; 9216];
     match host.answer(counts, question, &mut tray, &mut paper) {
         Ok((claim, length)) => {
@@ -74,7 +74,7 @@ fn print_sheet(
     host: &host::Sealed<Mod65537>,
     counts: &Bank<'_, i32>,
 ) -> io::Result<()> {
-    let mut tray = [<prime::residue::Residue<65537> as Field>::zero(); 11];
+    let mut tray = [Mod65537::zero(); 11];
     let mut paper = [0u8; 9216];
     let Ok((_, length)) = host.answer(counts, &Squares, &mut tray, &mut paper) else {
         return Ok(());
@@ -96,7 +96,7 @@ pub fn ask_all(
     sums: &Bank<'_, Mod65537>,
 ) -> io::Result<()> {
     let grid = host.book().grid();
-    let point = <prime::residue::Residue<65537> as Field>::image(5);
+    let point = Mod65537::image(5);
     println!(rt; "  question: the count of cell 9")?;
     describe(rt, &Cell { index: 9 }, grid, point, sums.cells())?;
     ask(rt, host, counts, verifier, sums, &Cell { index: 9 })?;

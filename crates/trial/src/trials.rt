@@ -65,20 +65,10 @@ fn print_trial<F: Field>(
 
 pub fn print_all(rt: &impl Print) -> io::Result<()> {
     println!(rt; "Whole trials, for the squares of the counts")?;
-    let zero = <prime::residue::Residue<65537> as Field>::zero();
-    print_trial(
-        rt,
-        <prime::residue::Residue<65537> as Field>::image(5),
-        &mut [zero; 8],
-        &mut [zero; 11],
-    )?;
-    let zero = <prime::residue::Residue<2147483647> as Field>::zero();
-    print_trial(
-        rt,
-        <prime::residue::Residue<2147483647> as Field>::image(5),
-        &mut [zero; 8],
-        &mut [zero; 11],
-    )?;
+    let zero = Mod65537::zero();
+    print_trial(rt, Mod65537::image(5), &mut [zero; 8], &mut [zero; 11])?;
+    let zero = Mersenne31::zero();
+    print_trial(rt, Mersenne31::image(5), &mut [zero; 8], &mut [zero; 11])?;
     let zero = <Extension<Mod65537> as Field>::zero();
     let t = <Extension<Mod65537> as Field>::of_parts(0, 1);
     print_trial(rt, t, &mut [zero; 8], &mut [zero; 11])?;

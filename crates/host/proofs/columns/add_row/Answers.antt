@@ -11,9 +11,8 @@ loop-y-preserved g c =
     let y = c.loop-y.y in
     let inv = c.loop-y.invariant in
     let long : length old ≤ length fs = c.requires.long in
-    let more = added_more F c.args.weight y old fs c.index-sums-y.result (omega arith) long (c.index-sums-y.is ∙ ap (λ bs. get_or bs y c.index-sums-y.result) inv) in
     let read : c.image.result ≡ F.image (get_or fs y (pos 0)) = c.image.ensures ∙ ap F.image (to_z-of_z w32 (get_or fs y (pos 0)) (ranged_fits (get_or fs y (pos 0)) (c.requires.ranged y))) in
-    cc
+    grind (arith, added_more F c.args.weight y old fs)
 
 pub returns : goal.returns
 returns g c = c.loop-y.invariant ∙ added_all g.F.Field.model c.args.weight c.loop-y.y c.args.sums.now c.args.counts.now (omega arith)

@@ -1,4 +1,4 @@
-use Rattle.std.proofs.Common.{[], ◌∷◌, ◌++◌, Ok, ap, ◌∙◌, w64, SFits, rules}
+use Rattle.std.proofs.Common.{[], ◌∷◌, ◌++◌, Ok, ap, ◌∙◌, w64, to_z, of_z, SFits, rules}
 use Rattle.std.proofs.lemmas.Result.{err_from_is_err_and}
 use Rattle.std.proofs.lemmas.Int.{to_z-of_z}
 use Rattle.token.specs.Readers.{cursor_of}
@@ -15,10 +15,11 @@ returns-in_err-pass c =
 pub returns-in_err-claim : goal.returns-in_err-claim
 returns-in_err-claim c =
     let p = err_from_is_err_and c.from_residual-in_err-claim.result c.from_residual-in_err-claim.ensures.1 in
-    let f : SFits w64 c.args.terms.now.least = search rules in
-    let g : SFits w64 c.args.terms.now.greatest = search rules in
+    let t = c.args.terms.now in
+    let lo = to_z w64 (of_z w64 t.least) in
+    let hi = to_z w64 (of_z w64 t.greatest) in
     rw (p.1, p.2)
-    (λ kept. stop_claim c.args.p c.args.e c.args.terms.now _ _ (to_z-of_z w64 _ f) (to_z-of_z w64 _ g) kept _ _ (c.in_ok-pass.ensures kept) _ (c.in_err-claim.ensures.read kept))
+    (λ kept. stop_claim c.args.p c.args.e t lo hi kept _ _ (c.in_ok-pass.ensures kept) _ (c.in_err-claim.ensures.read kept) (to_z-of_z w64 t.least (search rules)) (to_z-of_z w64 t.greatest (search rules)))
 
 pub returns-in_err-pass-2 : goal.returns-in_err-pass-2
 returns-in_err-pass-2 c =
@@ -28,7 +29,7 @@ returns-in_err-pass-2 c =
     rw (p.1, p.2)
     (λ kept.
     c.in_err-pass-2.ensures (kept ++ c.in_ok-claim.claim ∷ [])
-    ∙ at_form_end c.args.p c.args.e c.args.terms.now _ _ (to_z-of_z w64 _ f) (to_z-of_z w64 _ g) kept _ _ (c.in_ok-pass.ensures kept) _ _ (c.in_ok-claim.ensures.read kept))
+    ∙ at_form_end c.args.p c.args.e c.args.terms.now _ _ kept _ _ (c.in_ok-pass.ensures kept) _ _ (c.in_ok-claim.ensures.read kept) (to_z-of_z w64 _ f) (to_z-of_z w64 _ g))
 
 pub returns : goal.returns
 returns c =
@@ -38,4 +39,4 @@ returns c =
     λ kept.
     ap (λ z. Ok (kept ++ z ∷ [], cursor_of c.pass-2.new.reader)) (to_z-of_z w64 c.in_ok-claim.claim h)
     ∙ c.in_ok-pass-2.ensures (kept ++ c.in_ok-claim.claim ∷ [])
-    ∙ at_form_end c.args.p c.args.e c.args.terms.now _ _ (to_z-of_z w64 _ f) (to_z-of_z w64 _ g) kept _ _ (c.in_ok-pass.ensures kept) _ _ (c.in_ok-claim.ensures.read kept)
+    ∙ at_form_end c.args.p c.args.e c.args.terms.now _ _ kept _ _ (c.in_ok-pass.ensures kept) _ _ (c.in_ok-claim.ensures.read kept) (to_z-of_z w64 _ f) (to_z-of_z w64 _ g)

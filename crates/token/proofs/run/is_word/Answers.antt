@@ -12,4 +12,4 @@ loop-b-preserved c = each_next is_ascii_lowercase _ _ c.loop-b-test.true (sym c.
 
 pub returns : goal.returns
 returns c =
-    sym (made_of_yes is_ascii_lowercase 8 _ (omega (arith, false-eqb _ 0 c.if-is_empty.ensures)) c.if-run-gt8.false (sym c.loop-b.invariant ∙ each_end is_ascii_lowercase _ _ c.loop-b-test.false))
+    sym (made_of_yes is_ascii_lowercase 8 c.args.run.now (omega (arith, false-eqb _ 0 c.if-is_empty.ensures)) (omega arith) (sym c.loop-b.invariant ∙ each_end is_ascii_lowercase _ _ c.loop-b-test.false))
