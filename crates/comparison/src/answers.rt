@@ -12,8 +12,8 @@ use reference::{Answered, Ask, Element, Stop, answer};
 use std::alloc::AllocError;
 
 // The claim and the length of the reference's sheet, or its refusal.
-fn answer_wanted(answer: Result<Answered, Stop>) -> Outcome {
-    match answer {
+fn answer_wanted(wanted: Result<Answered, Stop>) -> Outcome {
+    match wanted {
         Ok(answered) => Outcome::given(answered.claim, answered.length),
         Err(stop) => Outcome::stopped(stop),
     }
