@@ -1,8 +1,8 @@
 use Rattle.std.proofs.Common.{◌≡◌, ◌-◌, ◌%◌, sym, ap, ◌∙◌, mod-eq_of_lt, arith}
 use native.Mathlib.Nat.{mod_self}
 use Rattle.prime.specs.Equality.{residue_path}
-use Rattle.prime.proofs.residue.Residue.minus.Goals as goal
-use Rattle.prime.proofs.residue.Residue.minus.Goals.{then-self-gt0, else-self-gt0}
+use Rattle.prime.proofs.arithmetic.ResidueField.opposite.Goals as goal
+use Rattle.prime.proofs.arithmetic.ResidueField.opposite.Goals.{then-self-gt0, else-self-gt0}
 
 pub returns : goal.returns
 returns g c =
