@@ -1,5 +1,5 @@
 -- One turn of the loops that evaluate the basis, the first weight and the interpolating polynomial. Assumes nothing but the laws of the field.
-use Rattle.std.proofs.Common.{◌≡◌, ℕ, zero, suc, ◌+◌, ◌-◌, ◌<◌, ◌≤◌, ◌≢◌, List, [], ◌∷◌, length, get_or, drop, sym, refl, ap, ◌∙◌, add-one, arith, drop-cons}
+use Rattle.std.proofs.Common.{◌≡◌, ℕ, zero, suc, ◌+◌, ◌-◌, ◌<◌, ◌≤◌, ◌≢◌, List, [], ◌∷◌, length, get_or, drop, sym, refl, ap, ◌∙◌, ap₂, add-one, arith, drop-cons}
 use Rattle.field.specs.Field.{FieldModel, LawfulField}
 use Rattle.polynomial.specs.Polynomials.{sub, eval}
 use Rattle.polynomial.specs.Interpolation.{except, node, factor, interpolant}
@@ -29,8 +29,12 @@ module _ {K : Type 0} (F : FieldModel K) where
   factors_skip x X k e = ap (factors x X) (add-one k) ∙ except_same F.mul F.one (factor F x X) k x e
 
   -- ---- the weights
-  pub lead_step : (k : ℕ) → lead F (k + 1) ≡ F.mul (F.inv (sub F (node F 0) (node F (k + 1)))) (lead F k)
-  lead_step k = ap (lead F) (add-one k) ∙ ap (λ n. F.mul (F.inv (sub F (node F 0) (node F n))) (lead F k)) (sym (add-one k))
+  pub lead_step : {w v u : K} (k : ℕ) → 1 ≤ k → w ≡ F.mul v u → v ≡ F.inv (sub F (node F 0) (node F k)) → u ≡ lead F (k - 1) → w ≡ lead F (k + 1 - 1)
+  lead_step zero h p q r = absurd (omega arith)
+  lead_step (suc k) h p q r =
+      let whole : suc k ≡ suc k + 1 - 1 = omega arith in
+      let less : suc k - 1 ≡ k = omega arith in
+      p ∙ ap₂ F.mul q (r ∙ ap (lead F) less) ∙ ap (lead F) whole
 
   pub weight_next : (d j : ℕ) (w : K) → next_weight F d j w ≡ F.mul (F.mul w (sub F (node F j) (node F d))) (F.inv (node F (j + 1)))
   weight_next d j w = ap (λ n. F.mul (F.mul w (sub F (node F j) (node F d))) (F.inv (node F n))) (sym (add-one j))

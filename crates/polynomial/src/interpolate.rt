@@ -13,8 +13,8 @@ fn first_weight<F: Field>(d: u32) -> F
     ensures { result ≡ lead F.Field.model d }
 {
     let mut weight = F::one();
-    for k in 0..d {
-        weight = difference_inverse::<F>(0, k + 1).product(weight);
+    for k in 1..=d {
+        weight = difference_inverse::<F>(0, k).product(weight);
     }
     weight
 }
@@ -40,13 +40,14 @@ pub fn interpolate_at<F: Field>(values: &[F], x: F) -> F
     let mut weight = first_weight::<F>(d);
     let mut before = F::one();
     let mut all = F::zero();
-    for j in 0..values.len() {
-        let step = difference(x, node_at(j as u32));
-        let part = values[j].product(weight).product(before);
+    for (i, value) in values.iter().enumerate() {
+        let j = i as u32;
+        let step = difference(x, node_at(j));
+        let part = value.product(weight).product(before);
         all = all.product(step).sum(part);
         before = before.product(step);
-        if (j as u32) < d {
-            weight = next_weight(d, j as u32, weight);
+        if j < d {
+            weight = next_weight(d, j, weight);
         }
     }
     all
