@@ -1,16 +1,20 @@
 -- The residues modulo such a number are a lawful field with a non-square, and 65,537 and 2,147,483,647 are such numbers. Assumes nothing.
-use Rattle.std.specs.Prelude.{◌≡◌, ℕ, ◌<◌, ◌≢◌, refl}
+use Rattle.std.specs.Prelude.{◌≡◌, ℕ, ◌*◌, ◌%◌, ◌<◌, ◌≢◌, refl}
 use Rattle.std.proofs.Common.{ap, ◌∙◌, mod-eq_of_lt, lit<, lit≤}
 use Rattle.field.specs.Field.{LawfulField, LawfulBase}
 use Rattle.prime.specs.Modulus.{IsModulus}
-use Rattle.prime.specs.Residues.{residue_of, times, prime_field}
+use Rattle.prime.specs.Residues.{residue_of, times, inverted, prime_field}
 use Rattle.prime.specs.declared.residue.Residue.{Residue}
-use Rattle.prime.specs.Laws.{prime_lawful}
+use Rattle.prime.specs.Laws.{prime_lawful, table_inverse}
 use Rattle.prime.specs.Primality.{prime_65537, prime_2147483647}
 use Rattle.prime.specs.Squares.{three_65537, minus_one_2147483647}
 
 pub lawful : {P W w : ℕ} (h : 0 < P) → IsModulus P W w → LawfulField (prime_field P h W)
 lawful {P} {W} h m = prime_lawful P h W m.prime m.least m.most m.limit_least m.limit_most
+
+-- a residue that n takes to 1 is the inverse of n's
+pub inverse_by_table : {P W w : ℕ} (h : 0 < P) → IsModulus P W w → (n : ℕ) (y : Residue P) → (n * y.value) % P ≡ 1 → y ≡ inverted (residue_of P h (n % P))
+inverse_by_table {P} {W} h m n y is = table_inverse P h W (lawful h m) n y is
 
 -- no residue times itself is the one of w
 pub not_square : {P W w : ℕ} → IsModulus P W w → (x : Residue P) {y : Residue P} → times x x ≡ y → y.value ≢ w

@@ -1,6 +1,6 @@
 // The prime field of the residues modulo P, for every modulus P. No operation but the inverse has a loop; a sum and an opposite take no division.
 ghost use Rattle.std.proofs.Math.Bool.{and-true};
-ghost use Rattle.std.proofs.Common.{sym};
+ghost use Rattle.std.proofs.Common.{sym, rules};
 ghost use Rattle.prime.specs.Residues.{prime_field, residue_of};
 ghost use Rattle.prime.specs.Fields.{lawful, base};
 
@@ -14,7 +14,7 @@ where
 {
     ghost model = { prime_field P ⟦<Residue<P> as Modulus<P>>⟧.positive ⟦<Residue<P> as Modulus<P>>⟧.LIMIT };
 
-    ghost lawful = { lawful ⟦<Residue<P> as Modulus<P>>⟧.positive ⟦<Residue<P> as Modulus<P>>⟧.lawful };
+    ghost lawful = { lawful {w = ⟦<Residue<P> as Modulus<P>>⟧.NON_SQUARE} ⟦<Residue<P> as Modulus<P>>⟧.positive (Prim.search rules) };
 
     ghost equality = { λ x y. sym (and-true _) };
 
@@ -90,7 +90,7 @@ where
 {
     ghost w = { residue_of P ⟦<Residue<P> as Modulus<P>>⟧.positive ⟦<Residue<P> as Modulus<P>>⟧.NON_SQUARE };
 
-    ghost base = { base ⟦<Residue<P> as Modulus<P>>⟧.positive ⟦<Residue<P> as Modulus<P>>⟧.lawful };
+    ghost base = { base ⟦<Residue<P> as Modulus<P>>⟧.positive (Prim.search rules) };
 
     fn non_square() -> Self {
         Residue {

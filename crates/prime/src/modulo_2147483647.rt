@@ -29,6 +29,7 @@ impl Modulus<2147483647> for Residue<2147483647> {
 }
 
 // 2,147,483,647 is prime.
+#[tactic(auto, using(crate::specs::Primality::prime_2147483647))]
 pub fn is_prime_2147483647()
     ensures { Prime 2147483647 }
 {}

@@ -29,6 +29,7 @@ impl Modulus<65537> for Residue<65537> {
 }
 
 // 65,537 is prime.
+#[tactic(auto, using(crate::specs::Primality::prime_65537))]
 pub fn is_prime_65537()
     ensures { Prime 65537 }
 {}

@@ -17,9 +17,9 @@ pub trait Modulus<const P: u32> {
 
     const NON_SQUARE: u32;
 
-    ghost lawful: { IsModulus P LIMIT NON_SQUARE };
-
     // The inverses of 1 to 252.
     fn inverses() -> &'static [u32; 252]
         ensures { T (inverses P 1 result.now) };
+
+    ghost lawful: { IsModulus P LIMIT NON_SQUARE };
 }
