@@ -29,12 +29,9 @@ module _ {K : Type 0} (F : FieldModel K) where
   factors_skip x X k e = ap (factors x X) (add-one k) ∙ except_same F.mul F.one (factor F x X) k x e
 
   -- ---- the weights
-  pub lead_step : {w v u : K} (k : ℕ) → 1 ≤ k → w ≡ F.mul v u → v ≡ F.inv (sub F (node F 0) (node F k)) → u ≡ lead F (k - 1) → w ≡ lead F (k + 1 - 1)
-  lead_step zero h p q r = absurd (omega arith)
-  lead_step (suc k) h p q r =
-      let whole : suc k ≡ suc k + 1 - 1 = omega arith in
-      let less : suc k - 1 ≡ k = omega arith in
-      p ∙ ap₂ F.mul q (r ∙ ap (lead F) less) ∙ ap (lead F) whole
+  pub lead_step : (k : ℕ) → 1 ≤ k → lead F k ≡ F.mul (F.inv (sub F (node F 0) (node F k))) (lead F (k - 1))
+  lead_step zero h = absurd (omega arith)
+  lead_step (suc k) h = let less : k ≡ suc k - 1 = omega arith in ap (λ n. F.mul (F.inv (sub F (node F 0) (node F (suc k)))) (lead F n)) less
 
   pub weight_next : (d j : ℕ) (w : K) → next_weight F d j w ≡ F.mul (F.mul w (sub F (node F j) (node F d))) (F.inv (node F (j + 1)))
   weight_next d j w = ap (λ n. F.mul (F.mul w (sub F (node F j) (node F d))) (F.inv (node F n))) (sym (add-one j))

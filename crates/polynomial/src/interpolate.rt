@@ -8,6 +8,7 @@ use crate::basis::{difference, difference_inverse, node_at};
 use field::Field;
 
 // The weight of the value at 0, where the last is at d: one over the product of 0 − k for k from 1 to d.
+#[tactic(auto, using(crate::proofs::Steps::lead_step))]
 fn first_weight<F: Field>(d: u32) -> F
     requires { d ≤ 252 }
     ensures { result ≡ lead F.Field.model d }
