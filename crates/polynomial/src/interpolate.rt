@@ -32,6 +32,7 @@ fn next_weight<F: Field>(d: u32, j: u32, weight: F) -> F
 
 // The value at x of the polynomial that takes the given values at 0, 1, 2, ..: one pass over them. Nothing is divided
 // by a difference with x, so an x that is one of these nodes is no special case.
+#[tactic(auto, using(crate::proofs::Steps::pass_step, crate::proofs::Steps::pass_end, crate::proofs::Steps::pass_whole, crate::proofs::Steps::value_at))]
 pub fn interpolate_at<F: Field>(values: &[F], x: F) -> F
     requires some { 1 ≤ length values.now }
     requires few { length values.now ≤ 253 }
