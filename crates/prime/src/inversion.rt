@@ -21,11 +21,8 @@ impl<const P: u32> Residue<P> {
         while r1 != 0 {
             let less = (r0 / r1 * t1) % p;
             let t2 = (t0 + (p - less)) % p;
-            let r2 = r0 % r1;
-            r0 = r1;
-            r1 = r2;
-            t0 = t1;
-            t1 = t2;
+            (r0, r1) = (r1, r0 % r1);
+            (t0, t1) = (t1, t2);
         }
         let value = (t0 % p) as u32;
         Some(Residue { value })
