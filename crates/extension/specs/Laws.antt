@@ -149,8 +149,8 @@ module _ {B : Type 0} (F : FieldModel B) (w : B) (L : LawfulField F) (base : Law
       inv_unique pair_lawful (pair_path (plain F w L.ring x (inv x) ∙ unit) (none F w L.ring x (inv x)))
 
   -- the inverse is the conjugate over the norm, and there is none where the norm has none
-  pub inverse-norm : (x : Extension B) → option_map (conjugate_times F x) (inverse F (norm F w x)) ≡ inverse (quadratic F w) x
-  inverse-norm x =
+  pub inverse_by_norm : (x : Extension B) → option_map (conjugate_times F x) (inverse F (norm F w x)) ≡ inverse (quadratic F w) x
+  inverse_by_norm x =
       elim (decided L.parts (norm F w x) zero) [
         | inl s ↦ ap (option_map (conjugate_times F x)) (none_inverse L.parts (norm F w x) s.0) ∙ sym (none_inverse pair_parts x (norm-zero x s.0))
         | inr s ↦ ap (option_map (conjugate_times F x)) (some_inverse L.parts (norm F w x) s.0) ∙ sym (some_inverse pair_parts x (λ e. s.0 (zero-norm F w L.ring x e)))

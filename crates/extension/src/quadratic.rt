@@ -68,6 +68,7 @@ impl<B: BaseField> Field for Extension<B> {
         self.norm().inverse().map(|i| self.conjugate_times(i))
     }
 
+    #[tactic(auto, using(crate::specs::Laws::pair_number))]
     fn inverse_of(n: u32) -> Self {
         Extension {
             a: B::inverse_of(n),

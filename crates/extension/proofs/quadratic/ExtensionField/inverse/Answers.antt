@@ -2,7 +2,7 @@ use Rattle.std.proofs.Common.{◌≡◌, ap, ◌∙◌, rules}
 use Rattle.std.specs.Option.{option_map}
 use Rattle.field.specs.Field.{inverse}
 use Rattle.extension.specs.Pairs.{conjugate_times}
-use Rattle.extension.specs.Laws.{inverse-norm}
+use Rattle.extension.specs.Laws.{inverse_by_norm}
 use Rattle.extension.proofs.quadratic.ExtensionField.inverse.Goals as goal
 
 pub returns : goal.returns
@@ -11,4 +11,4 @@ returns g c =
     let mapped : c.map.result ≡ option_map (conjugate_times F c.args.self) c.inverse.result = search rules in
     mapped
     ∙ ap (option_map (conjugate_times F c.args.self)) (c.inverse.ensures ∙ ap (inverse F) c.norm.ensures)
-    ∙ inverse-norm F g.B.BaseField.w g.met.B.Field.lawful g.met.B.BaseField.base c.args.self
+    ∙ inverse_by_norm F g.B.BaseField.w g.met.B.Field.lawful g.met.B.BaseField.base c.args.self
