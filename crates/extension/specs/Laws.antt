@@ -1,10 +1,12 @@
 -- The quadratic extension of a base field is a lawful field. Assumes nothing but the laws of the base.
-use Rattle.std.specs.Prelude.{◌≡◌, ℕ, ◌<◌, ◌≤◌, [], ◌∷◌, pos, Some, None, refl}
+use Rattle.std.specs.Prelude.{◌≡◌, ℕ, ◌<◌, ◌≤◌, Bool, ◌&&◌, [], ◌∷◌, pos, ◌==◌, refl}
+use Rattle.std.specs.Option.{option_map}
 use Rattle.std.proofs.Common.{sym, ap, ap₂, ◌∙◌, inl, inr, arith}
 use Rattle.std.proofs.Math.Nat.{zero-mod}
-use Rattle.field.specs.Field.{FieldModel, Ring, Images, Inverses, Parts, LawfulField, LawfulBase, PartsOf, inverse}
+use Rattle.std.proofs.Math.Bool.{and-true}
+use Rattle.field.specs.Field.{FieldModel, Ring, Images, Inverses, Parts, LawfulField, LawfulBase, PartsOf, same, inverse}
 use Rattle.field.proofs.Consequences.{inv_unique, image_nonzero}
-use Rattle.field.proofs.Sameness.{decided, square_zero, inverse_some, inverse_none, some_inverse, none_inverse}
+use Rattle.field.proofs.Sameness.{decided, square_zero, some_inverse, none_inverse}
 use Rattle.field.proofs.Solver.{sides, solve, solve_by₂}
 use Rattle.extension.specs.Pairs.{pair, norm, conjugate_times, quadratic}
 use Rattle.extension.specs.declared.pair.Extension.{Extension}
@@ -147,10 +149,17 @@ module _ {B : Type 0} (F : FieldModel B) (w : B) (L : LawfulField F) (base : Law
       inv_unique pair_lawful (pair_path (plain F w L.ring x (inv x) ∙ unit) (none F w L.ring x (inv x)))
 
   -- the inverse is the conjugate over the norm, and there is none where the norm has none
-  pub inverse_by_norm : (x r : Extension B) (n i : B) → n ≡ norm F w x → Some i ≡ inverse F n → r ≡ conjugate_times F x i → Some r ≡ inverse (quadratic F w) x
-  inverse_by_norm x r n i is some made =
-      let s = inverse_some L.parts n i some in
-      ap Some (made ∙ ap (conjugate_times F x) (s.1 ∙ ap inv is)) ∙ sym (some_inverse pair_parts x (λ e. s.0 (is ∙ zero-norm F w L.ring x e)))
+  pub inverse_by_norm : (x : Extension B) → option_map (conjugate_times F x) (inverse F (norm F w x)) ≡ inverse (quadratic F w) x
+  inverse_by_norm x =
+      elim (decided L.parts (norm F w x) zero) [
+        | inl s ↦ ap (option_map (conjugate_times F x)) (none_inverse L.parts (norm F w x) s.0) ∙ sym (none_inverse pair_parts x (norm-zero x s.0))
+        | inr s ↦ ap (option_map (conjugate_times F x)) (some_inverse L.parts (norm F w x) s.0) ∙ sym (some_inverse pair_parts x (λ e. s.0 (zero-norm F w L.ring x e)))
+      ]
 
-  pub no_inverse : (x : Extension B) (n : B) → n ≡ norm F w x → None ≡ inverse F n → None ≡ inverse (quadratic F w) x
-  no_inverse x n is none = sym (none_inverse pair_parts x (norm-zero x (sym is ∙ inverse_none L.parts n none)))
+  -- elements of the base are the same where their low parts agree
+  same-low : (x y : B) → same F x y ≡ F.low x == F.low y
+  same-low x y = ap₂ (λ m n. F.low x == F.low y && m == n) ((L.parts.within x).2 base.plain) ((L.parts.within y).2 base.plain) ∙ and-true _
+
+  -- pairs are equal, part by part, where their parts agree
+  pub pair_equality : (E : B → B → Bool) → ((x y : B) → E x y ≡ same F x y) → (x y : Extension B) → (E x.a y.a && E x.b y.b) ≡ same (quadratic F w) x y
+  pair_equality E is x y = ap₂ ◌&&◌ (is x.a y.a ∙ same-low x.a y.a) (is x.b y.b ∙ same-low x.b y.b)

@@ -1,6 +1,6 @@
 // The quadratic extension of a base field: pairs a + b t with t × t = w. A product takes five products of the base, an inverse five and one inverse.
 ghost use Rattle.extension.specs.Pairs.{quadratic};
-ghost use Rattle.extension.specs.Laws.{pair_lawful};
+ghost use Rattle.extension.specs.Laws.{pair_lawful, pair_equality};
 
 use crate::pair::Extension;
 use field::{BaseField, Field};
@@ -9,6 +9,8 @@ impl<B: BaseField> Field for Extension<B> {
     ghost model = { quadratic B.Field.model B.BaseField.w };
 
     ghost lawful = { pair_lawful B.Field.model B.BaseField.w B.Field.lawful B.BaseField.base };
+
+    ghost equality = { pair_equality B.Field.model B.BaseField.w B.Field.lawful B.BaseField.base B.PartialEq.eq B.Field.equality };
 
     fn characteristic() -> u32 {
         B::characteristic()
@@ -62,19 +64,11 @@ impl<B: BaseField> Field for Extension<B> {
         }
     }
 
-    fn is_same(self, other: Self) -> bool {
-        let low = self.a.low() == other.a.low();
-        let high = self.b.low() == other.b.low();
-        low && high
-    }
-
     fn inverse(self) -> Option<Self> {
-        match self.norm().inverse() {
-            Some(i) => Some(self.conjugate_times(i)),
-            None => None,
-        }
+        self.norm().inverse().map(|i| self.conjugate_times(i))
     }
 
+    #[tactic(auto, using(crate::specs::Laws::pair_number))]
     fn inverse_of(n: u32) -> Self {
         Extension {
             a: B::inverse_of(n),

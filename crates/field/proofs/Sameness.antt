@@ -1,5 +1,5 @@
 -- What sameness and the inverse say of elements. Assumes nothing.
-use Rattle.std.proofs.Common.{◌≡◌, ℕ, Bool, true, false, ◌&&◌, eqb, ◌≢◌, ◌⊎◌, Some, None, sym, refl, ap, ◌∙◌, ap₂, inl, inr, arith, eq-eqb, eqb-true}
+use Rattle.std.proofs.Common.{◌≡◌, Bool, true, false, ◌&&◌, eqb, ◌≢◌, ◌⊎◌, Some, None, sym, refl, ap, ◌∙◌, ap₂, inl, inr, eq-eqb, eqb-true}
 use borrow.Author.Tests.{clash}
 use Rattle.field.specs.Field.{FieldModel, LawfulField, Parts, same, unless, inverse}
 use Rattle.field.proofs.Consequences.{factor_zero}
@@ -41,20 +41,6 @@ module _ {K : Type 0} {F : FieldModel K} (P : Parts F) where
 
   pub none_inverse : (x : K) → x ≡ F.zero → inverse F x ≡ None
   none_inverse x e = ap (λ b. unless b (F.inv x)) (same_eq x F.zero e)
-
-  pub inverse_some : (x y : K) → Some y ≡ inverse F x → (x ≢ F.zero) × (y ≡ F.inv x)
-  inverse_some x y e =
-      elim (decided x F.zero) [
-        | inl s ↦ absurd (let i = none_inverse x s.0 in let z : ◌≡◌ {A = ℕ} 0 1 = cc in omega (arith, z))
-        | inr s ↦ (s.0, (let i = some_inverse x s.0 in cc))
-      ]
-
-  pub inverse_none : (x : K) → None ≡ inverse F x → x ≡ F.zero
-  inverse_none x e =
-      elim (decided x F.zero) [
-        | inl s ↦ s.0
-        | inr s ↦ absurd (let i = some_inverse x s.0 in let z : ◌≡◌ {A = ℕ} 0 1 = cc in omega (arith, z))
-      ]
 
 module _ {K : Type 0} {F : FieldModel K} (L : LawfulField F) where
   -- a square is zero only at zero

@@ -293,12 +293,7 @@ pub ruleset sides = (r_sides, reads)
 pub solve : {K : Type 0} {F : FieldModel K} (R : Ring F) (env : List K) {x y : K} (b : Sides F env x y) → norm b.left.expr ≡ norm b.right.expr → x ≡ y
 solve R env b h = equate R env b.left b.right h
 
--- from c ≡ d: x ≡ y, if x + k d and y + k c are the same
-pub solve_by : {K : Type 0} {F : FieldModel K} (R : Ring F) (env : List K) {x y c d : K} (k : K) → c ≡ d → (b : Sides F env (F.add x (F.mul k d)) (F.add y (F.mul k c))) → norm b.left.expr ≡ norm b.right.expr → x ≡ y
-solve_by {F = F} R env {x} {y} {c} {d} k e b h =
-    add_cancel R (F.mul k d) x y (R.add_comm (F.mul k d) x ∙ solve R env b h ∙ ap (λ w. F.add y (F.mul k w)) e ∙ R.add_comm y (F.mul k d))
-
--- and from two equations
+-- from c ≡ d and c' ≡ d': x ≡ y, if x + k d + k' d' and y + k c + k' c' are the same
 pub solve_by₂ : {K : Type 0} {F : FieldModel K} (R : Ring F) (env : List K) {x y c d c' d' : K} (k : K) → c ≡ d → (k' : K) → c' ≡ d' → (b : Sides F env (F.add (F.add x (F.mul k d)) (F.mul k' d')) (F.add (F.add y (F.mul k c)) (F.mul k' c'))) → norm b.left.expr ≡ norm b.right.expr → x ≡ y
 solve_by₂ {F = F} R env {x} {y} {c} {d} {c'} {d'} k e k' e' b h =
     add_cancel R (F.add (F.mul k d) (F.mul k' d')) x y

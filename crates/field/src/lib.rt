@@ -5,7 +5,7 @@ ghost use Rattle.std.specs.Prelude.{◌≡◌, ◌≤◌, pos};
 ghost use Rattle.field.specs.Field.{FieldModel, LawfulField, InRange, PartsOf, NoSquare, LawfulBase, same, inverse};
 
 // A lawful field. Its meaning is one record of constants and operations, and each method answers its part of it.
-pub trait Field: Copy {
+pub trait Field: Copy + Eq {
     ghost model: { FieldModel Self };
 
     // The characteristic p.
@@ -34,9 +34,6 @@ pub trait Field: Copy {
 
     fn product(self, other: Self) -> Self
         ensures { result ≡ model.mul self other };
-
-    fn is_same(self, other: Self) -> bool
-        ensures { result ≡ same model self other };
 
     // One over the element; nothing at zero.
     fn inverse(self) -> Option<Self>
@@ -67,6 +64,9 @@ pub trait Field: Copy {
         ensures { result ≡ model.make low high };
 
     ghost lawful: { LawfulField model };
+
+    // Elements are equal where both parts agree.
+    ghost equality: { (x y : Self) → Self.PartialEq.eq x y ≡ same model x y };
 }
 
 // A field of degree 1 that names an element that no element times itself equals.

@@ -36,7 +36,7 @@ fn check_case<F: Field>(rt: &impl Abort, case: Case) -> Result<(), Fail> {
     let x: F = element(rt, case.left);
     let y: F = element(rt, case.right);
     let i = x.inverse().ok_or("no inverse")?;
-    assert!(rt; x.is_same(y) == (case.left == case.right));
+    assert!(rt; (x == y) == (case.left == case.right));
     assert_eq!(rt; (parts(x), parts(y)), (case.left, case.right));
     assert_eq!(rt;
         (parts(x.sum(y)), parts(x.product(y))),
@@ -59,8 +59,7 @@ pub(crate) fn check_cases<F: Field>(rt: &impl Abort, cases: &[Case]) -> Result<(
 
 // Each case is a whole number and the low part of its image; the high part is 0.
 pub(crate) fn check_images<F: Field>(rt: &impl Abort, cases: &[(i32, u32)]) {
-    for case in cases {
-        let (n, low) = *case;
+    for &(n, low) in cases {
         assert!(rt; n >= -2147483647);
         assert_eq!(rt; parts(F::image(n)), (low, 0));
     }
@@ -73,11 +72,7 @@ pub(crate) fn check_numbers<F: Field>(rt: &impl Abort, p: u32, e: u32, limit: u3
         (p, e, limit)
     );
     assert_eq!(rt; (parts(F::zero()), parts(F::one())), ((0, 0), (1, 0)));
-    for n in 1..=252u32 {
-        assert!(rt;
-            F::image(n as i32)
-                .product(F::inverse_of(n))
-                .is_same(F::one())
-        );
+    for n in 1..=252 {
+        assert!(rt; F::image(n as i32).product(F::inverse_of(n)) == F::one());
     }
 }

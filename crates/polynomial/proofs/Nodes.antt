@@ -105,3 +105,6 @@ module _ {K : Type 0} {F : FieldModel K} (L : LawfulField F) where
       go (inr e) r =
           subst Distinct (sym (except_other ◌++◌ [] (λ k. node F k ∷ []) n x e))
           (each_other (λ y. node F n ≢ y) n x (λ k b d. nodes_differ n k (omega arith) (omega arith) (omega arith)), r)
+
+-- one over a difference of nodes, either way round
+pub ruleset differences = (node_less, inv-less)

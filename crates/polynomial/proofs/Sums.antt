@@ -1,5 +1,5 @@
 -- Lists made from a function of the place, and sums over places. Assumes nothing but the laws of the field.
-use Rattle.std.proofs.Common.{◌≡◌, ℕ, zero, suc, ◌+◌, ◌*◌, ◌<◌, ◌≤◌, ◌≢◌, ◌⊎◌, List, [], ◌∷◌, ◌++◌, map, length, get_or, take, sym, refl, ap, ◌∙◌, ap₂, inl, inr, arith}
+use Rattle.std.proofs.Common.{◌≡◌, ℕ, zero, suc, ◌+◌, ◌*◌, ◌<◌, ◌≤◌, ◌≢◌, ◌⊎◌, List, [], ◌∷◌, ◌++◌, map, fold, length, get_or, take, sym, refl, ap, ◌∙◌, ap₂, inl, inr, arith}
 use Rattle.std.proofs.lemmas.List.{take_more}
 use Rattle.field.specs.Field.{FieldModel, LawfulField}
 use Rattle.field.proofs.Solver.{sides, solve, zero-add}
@@ -48,6 +48,14 @@ module _ {K : Type 0} {F : FieldModel K} (L : LawfulField F) where
   list_sum_more xs i x within read =
       ap (list_sum F) (take_more xs i x within ∙ ap (λ y. take i xs ++ (y ∷ [])) (sym read))
       ∙ list_sum-append (take i xs) (x ∷ []) ∙ ap (F.add (list_sum F (take i xs))) (L.ring.add-zero x)
+
+  fold-add : (a : K) (xs : List K) → fold F.add a xs ≡ F.add a (list_sum F xs)
+  fold-add a [] = sym (L.ring.add-zero a)
+  fold-add a (x ∷ xs) = fold-add (F.add a x) xs ∙ L.ring.add_assoc a x (list_sum F xs)
+
+  -- the sum of a list, added up from its first element on
+  pub fold-sum : (xs : List K) → fold F.add F.zero xs ≡ list_sum F xs
+  fold-sum xs = fold-add F.zero xs ∙ zero-add L.ring (list_sum F xs)
 
   pub list_sum-listed : (j n : ℕ) (f : ℕ → K) → list_sum F (listed j n f) ≡ sum_from F j n f
   list_sum-listed j zero f = refl

@@ -21,6 +21,7 @@ pub fn difference<F: Field>(a: F, b: F) -> F
 }
 
 // One over x − k, for two different nodes: one over the larger less the smaller, with the sign of x − k.
+#[tactic(auto, using(crate::proofs::Nodes::differences))]
 pub(crate) fn difference_inverse<F: Field>(x: u32, k: u32) -> F
     requires first { x ≤ 252 }
     requires second { k ≤ 252 }
@@ -35,6 +36,7 @@ pub(crate) fn difference_inverse<F: Field>(x: u32, k: u32) -> F
 }
 
 // χ_x at the point: one pass over the rows, with a factor for each row but x.
+#[tactic(auto, using(crate::proofs::Steps::factors_more, crate::proofs::Steps::factors_skip))]
 pub fn basis_at<F: Field>(rows: u32, x: u32, point: F) -> F
     requires few { rows ≤ 253 }
     requires inside { x < rows }

@@ -8,13 +8,14 @@ use crate::basis::{difference, difference_inverse, node_at};
 use field::Field;
 
 // The weight of the value at 0, where the last is at d: one over the product of 0 − k for k from 1 to d.
+#[tactic(auto, using(crate::proofs::Steps::lead_step))]
 fn first_weight<F: Field>(d: u32) -> F
     requires { d ≤ 252 }
     ensures { result ≡ lead F.Field.model d }
 {
     let mut weight = F::one();
-    for k in 0..d {
-        weight = difference_inverse::<F>(0, k + 1).product(weight);
+    for k in 1..=d {
+        weight = difference_inverse::<F>(0, k).product(weight);
     }
     weight
 }
@@ -31,6 +32,7 @@ fn next_weight<F: Field>(d: u32, j: u32, weight: F) -> F
 
 // The value at x of the polynomial that takes the given values at 0, 1, 2, ..: one pass over them. Nothing is divided
 // by a difference with x, so an x that is one of these nodes is no special case.
+#[tactic(auto, using(crate::proofs::Steps::pass_step, crate::proofs::Steps::pass_end, crate::proofs::Steps::pass_whole, crate::proofs::Steps::value_at))]
 pub fn interpolate_at<F: Field>(values: &[F], x: F) -> F
     requires some { 1 ≤ length values.now }
     requires few { length values.now ≤ 253 }
@@ -40,13 +42,14 @@ pub fn interpolate_at<F: Field>(values: &[F], x: F) -> F
     let mut weight = first_weight::<F>(d);
     let mut before = F::one();
     let mut all = F::zero();
-    for j in 0..values.len() {
-        let step = difference(x, node_at(j as u32));
-        let part = values[j].product(weight).product(before);
+    for (i, value) in values.iter().enumerate() {
+        let j = i as u32;
+        let step = difference(x, node_at(j));
+        let part = value.product(weight).product(before);
         all = all.product(step).sum(part);
         before = before.product(step);
-        if (j as u32) < d {
-            weight = next_weight(d, j as u32, weight);
+        if j < d {
+            weight = next_weight(d, j, weight);
         }
     }
     all

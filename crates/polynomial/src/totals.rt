@@ -8,9 +8,5 @@ use field::Field;
 pub fn total<F: Field>(values: &[F]) -> F
     ensures { result ≡ list_sum F.Field.model values.now }
 {
-    let mut all = F::zero();
-    for value in values {
-        all = all.sum(*value);
-    }
-    all
+    values.iter().fold(F::zero(), |all, value| all.sum(*value))
 }

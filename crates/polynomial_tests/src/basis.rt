@@ -9,8 +9,7 @@ use std::process::Abort;
 type Case = (u32, u32, (u32, u32));
 
 fn check_basis<F: Field>(rt: &impl Abort, point: F, cases: &[Case]) {
-    for case in cases {
-        let (rows, x, parts) = *case;
+    for &(rows, x, parts) in cases {
         assert!(rt; rows <= 253 && x < rows);
         let value = basis_at(rows, x, point);
         assert_eq!(rt; (value.low(), value.high()), parts);
@@ -24,7 +23,7 @@ fn check_nodes<F: Field>(rt: &impl Abort, rows: u32) {
         for k in 0..rows {
             let value: F = basis_at(rows, x, node_at(k));
             let expected = if k == x { F::one() } else { F::zero() };
-            assert!(rt; value.is_same(expected));
+            assert!(rt; value == expected);
         }
     }
 }

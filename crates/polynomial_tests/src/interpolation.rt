@@ -22,8 +22,7 @@ fn element<F: Field>(rt: &impl Abort, parts: (u32, u32)) -> F {
 
 fn check_values<F: Field>(rt: &impl Abort, values: &[F], cases: &[Case]) {
     assert!(rt; 1 <= values.len() && values.len() <= 253);
-    for case in cases {
-        let (point, parts) = *case;
+    for &(point, parts) in cases {
         let value = interpolate_at(values, element(rt, point));
         assert_eq!(rt; (value.low(), value.high()), parts);
     }
@@ -86,7 +85,7 @@ fn through_one_value(rt: HostRuntime) {
 // The powers of 2.
 fn fill_powers<F: Field>(values: &mut [F]) {
     let mut power = F::one();
-    for value in values.iter_mut() {
+    for value in values {
         *value = power;
         power = power.sum(power);
     }

@@ -1,51 +1,100 @@
-// Sums, opposites, products and images modulo any P up to 2,147,483,647. None has a loop; a sum and an opposite take no division.
-ghost use Rattle.std.specs.Prelude.{◌≡◌, ◌<◌, ◌≤◌};
-ghost use Rattle.field.specs.Field.{modulo};
-ghost use Rattle.prime.specs.Residues.{residue_of, plus, minus, times};
+// The prime field of the residues modulo P, for every modulus P. No operation but the inverse has a loop; a sum and an opposite take no division.
+ghost use Rattle.std.proofs.Math.Bool.{and-true};
+ghost use Rattle.std.proofs.Common.{sym, rules};
+ghost use Rattle.prime.specs.Residues.{prime_field, residue_of};
+ghost use Rattle.prime.specs.Fields.{lawful, base};
 
+use crate::modulus::Modulus;
 use crate::residue::Residue;
+use field::{BaseField, Field};
 
-impl<const P: u32> Residue<P> {
-    // A number below P, as a residue.
-    pub(crate) fn of_small(n: u32) -> Self
-        requires { n < P }
-        ensures { (h : 0 < P) → result ≡ residue_of P h n }
-    {
-        Residue { value: n }
+impl<const P: u32> Field for Residue<P>
+where
+    Self: Modulus<P>,
+{
+    ghost model = { prime_field P ⟦<Residue<P> as Modulus<P>>⟧.positive ⟦<Residue<P> as Modulus<P>>⟧.LIMIT };
+
+    ghost lawful = { lawful {w = ⟦<Residue<P> as Modulus<P>>⟧.NON_SQUARE} ⟦<Residue<P> as Modulus<P>>⟧.positive (Prim.search rules) };
+
+    ghost equality = { λ x y. sym (and-true _) };
+
+    fn characteristic() -> u32 {
+        P
     }
 
-    // The residue of a whole number: that of its size, taken from P where the number is negative.
-    pub(crate) fn of_signed(n: i32) -> Self
-        requires { 0 < P }
-        ensures { (h : 0 < P) → result ≡ residue_of P h (modulo P n) }
-    {
-        let rest = n.unsigned_abs() % P;
-        let value = if n < 0 && rest > 0 { P - rest } else { rest };
-        Residue { value }
+    fn degree() -> u32 {
+        1
     }
 
-    pub(crate) fn plus(self, other: Self) -> Self
-        requires { P ≤ 2147483647 }
-        ensures { result ≡ plus self.entry other.entry }
-    {
+    fn limit() -> u32 {
+        <Self as Modulus<P>>::LIMIT
+    }
+
+    fn zero() -> Self {
+        Residue { value: 0 }
+    }
+
+    fn one() -> Self {
+        Residue { value: 1 }
+    }
+
+    fn sum(self, other: Self) -> Self {
         let total = self.value + other.value;
         let value = if total < P { total } else { total - P };
         Residue { value }
     }
 
-    pub(crate) fn minus(self) -> Self
-        ensures { result ≡ minus self.entry }
-    {
+    fn opposite(self) -> Self {
         let value = if self.value > 0 { P - self.value } else { 0 };
         Residue { value }
     }
 
-    pub(crate) fn times(self, other: Self) -> Self
-        requires { P ≤ 2147483647 }
-        ensures { result ≡ times self.entry other.entry }
-    {
+    fn product(self, other: Self) -> Self {
         let wide = self.value as u64 * other.value as u64;
         let value = (wide % P as u64) as u32;
         Residue { value }
+    }
+
+    fn inverse(self) -> Option<Self> {
+        self.inverted()
+    }
+
+    fn inverse_of(n: u32) -> Self {
+        let value = Self::inverses()[n as usize - 1];
+        Residue { value }
+    }
+
+    // The residue of the number's size, taken from P where the number is negative.
+    fn image(n: i32) -> Self {
+        let rest = n.unsigned_abs() % P;
+        let value = if n < 0 && rest > 0 { P - rest } else { rest };
+        Residue { value }
+    }
+
+    fn low(self) -> u32 {
+        self.value
+    }
+
+    fn high(self) -> u32 {
+        0
+    }
+
+    fn of_parts(low: u32, _high: u32) -> Self {
+        Residue { value: low }
+    }
+}
+
+impl<const P: u32> BaseField for Residue<P>
+where
+    Self: Modulus<P>,
+{
+    ghost w = { residue_of P ⟦<Residue<P> as Modulus<P>>⟧.positive ⟦<Residue<P> as Modulus<P>>⟧.NON_SQUARE };
+
+    ghost base = { base ⟦<Residue<P> as Modulus<P>>⟧.positive (Prim.search rules) };
+
+    fn non_square() -> Self {
+        Residue {
+            value: <Self as Modulus<P>>::NON_SQUARE,
+        }
     }
 }

@@ -1,8 +1,7 @@
-// Inverses modulo a prime P: by the extended Euclidean algorithm, and of 1 to 252 out of a table.
-ghost use Rattle.std.specs.Prelude.{◌≡◌, ◌*◌, ◌%◌, ◌<◌, ◌≤◌, T, ◌==◌};
+// Inverses modulo a prime P, by the extended Euclidean algorithm.
+ghost use Rattle.std.specs.Prelude.{◌≡◌, ◌<◌, ◌≤◌, ◌==◌};
 ghost use Rattle.field.specs.Field.{unless};
 ghost use Rattle.prime.specs.Residues.{inverted};
-ghost use Rattle.prime.specs.Tables.{inverses};
 
 use crate::residue::Residue;
 
@@ -22,24 +21,10 @@ impl<const P: u32> Residue<P> {
         while r1 != 0 {
             let less = (r0 / r1 * t1) % p;
             let t2 = (t0 + (p - less)) % p;
-            let r2 = r0 % r1;
-            r0 = r1;
-            r1 = r2;
-            t0 = t1;
-            t1 = t2;
+            (r0, r1) = (r1, r0 % r1);
+            (t0, t1) = (t1, t2);
         }
         let value = (t0 % p) as u32;
         Some(Residue { value })
-    }
-
-    // The inverse of n, out of a table of inverses.
-    pub(crate) fn by_table(table: &[u32; 252], n: u32) -> Self
-        requires least { 1 ≤ n }
-        requires greatest { n ≤ 252 }
-        requires correct { T (inverses P 1 table.now) }
-        ensures { (n * result.value) % P ≡ 1 }
-    {
-        let value = table[n as usize - 1];
-        Residue { value }
     }
 }

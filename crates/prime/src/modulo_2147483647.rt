@@ -1,95 +1,35 @@
 // The prime field of the residues modulo 2,147,483,647.
 ghost use Rattle.std.proofs.Common.{lit<};
 ghost use Rattle.prime.specs.Primes.{Prime};
-ghost use Rattle.prime.specs.Residues.{prime_field, residue_of};
-ghost use Rattle.prime.specs.Fields.{lawful_2147483647, base_2147483647};
+ghost use Rattle.prime.specs.Fields.{modulus_2147483647};
 
+use crate::modulus::Modulus;
 use crate::residue::Residue;
 use crate::table_2147483647::INVERSES;
-use field::{BaseField, Field};
 
 // 2,147,483,647 is a prime; the limit of weights is 46,340, and 2,147,483,646 is no square.
 pub type Mersenne31 = Residue<2147483647>;
 
-impl Field for Residue<2147483647> {
-    ghost model = { prime_field 2147483647 (lit< tt) 46340 };
+impl Modulus<2147483647> for Residue<2147483647> {
+    ghost positive = { lit< tt };
 
-    ghost lawful = { lawful_2147483647 };
+    ghost LIMIT = { 46340 };
 
-    fn characteristic() -> u32 {
-        2147483647
-    }
+    const LIMIT: u32 = 46340;
 
-    fn degree() -> u32 {
-        1
-    }
+    ghost NON_SQUARE = { 2147483646 };
 
-    fn limit() -> u32 {
-        46340
-    }
+    const NON_SQUARE: u32 = 2147483646;
 
-    fn zero() -> Self {
-        Self::of_small(0)
-    }
+    ghost lawful = { modulus_2147483647 };
 
-    fn one() -> Self {
-        Self::of_small(1)
-    }
-
-    fn sum(self, other: Self) -> Self {
-        self.plus(other)
-    }
-
-    fn opposite(self) -> Self {
-        self.minus()
-    }
-
-    fn product(self, other: Self) -> Self {
-        self.times(other)
-    }
-
-    fn is_same(self, other: Self) -> bool {
-        self.value == other.value
-    }
-
-    fn inverse(self) -> Option<Self> {
-        self.inverted()
-    }
-
-    fn inverse_of(n: u32) -> Self {
-        Self::by_table(&INVERSES, n)
-    }
-
-    fn image(n: i32) -> Self {
-        Self::of_signed(n)
-    }
-
-    fn low(self) -> u32 {
-        self.value()
-    }
-
-    fn high(self) -> u32 {
-        0
-    }
-
-    fn of_parts(low: u32, _high: u32) -> Self {
-        Self::of_small(low)
-    }
-}
-
-impl BaseField for Residue<2147483647> {
-    ghost w = { residue_of 2147483647 (lit< tt) 2147483646 };
-
-    ghost base = { base_2147483647 };
-
-    fn non_square() -> Self {
-        Self::of_small(2147483646)
+    fn inverses() -> &'static [u32; 252] {
+        &INVERSES
     }
 }
 
 // 2,147,483,647 is prime.
-pub fn is_prime_2147483647() -> u8
+#[tactic(auto, using(crate::specs::Primality::prime_2147483647))]
+pub fn is_prime_2147483647()
     ensures { Prime 2147483647 }
-{
-    0
-}
+{}

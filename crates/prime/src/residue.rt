@@ -2,7 +2,7 @@
 ghost use Rattle.std.specs.Prelude.{◌≡◌, ◌<◌};
 
 // A whole number from 0 to P − 1.
-#[derive(Clone, Copy)]
+#[derive(Clone, Copy, PartialEq, Eq, Debug)]
 pub struct Residue<const P: u32> {
     pub(crate) value: u32,
     ghost small: { value < P },

@@ -1,13 +1,14 @@
-use Rattle.extension.specs.Laws.{inverse_by_norm, no_inverse}
+use Rattle.std.proofs.Common.{◌≡◌, ap, ◌∙◌, rules}
+use Rattle.std.specs.Option.{option_map}
+use Rattle.field.specs.Field.{inverse}
+use Rattle.extension.specs.Pairs.{conjugate_times}
+use Rattle.extension.specs.Laws.{inverse_by_norm}
 use Rattle.extension.proofs.quadratic.ExtensionField.inverse.Goals as goal
 
-pub returns-in-Some : goal.returns-in-Some
-returns-in-Some g c =
-    inverse_by_norm g.B.Field.model g.B.BaseField.w g.met.B.Field.lawful g.met.B.BaseField.base
-    c.args.self c.conjugate_times.result c.norm.result c.in-Some.i
-    c.norm.ensures c.in-Some.ensures c.conjugate_times.ensures
-
-pub returns-in-None : goal.returns-in-None
-returns-in-None g c =
-    no_inverse g.B.Field.model g.B.BaseField.w g.met.B.Field.lawful g.met.B.BaseField.base
-    c.args.self c.norm.result c.norm.ensures c.in-None.ensures
+pub returns : goal.returns
+returns g c =
+    let F = g.B.Field.model in
+    let mapped : c.map.result ≡ option_map (conjugate_times F c.args.self) c.inverse.result = search rules in
+    mapped
+    ∙ ap (option_map (conjugate_times F c.args.self)) (c.inverse.ensures ∙ ap (inverse F) c.norm.ensures)
+    ∙ inverse_by_norm F g.B.BaseField.w g.met.B.Field.lawful g.met.B.BaseField.base c.args.self

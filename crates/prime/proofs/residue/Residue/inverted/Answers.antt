@@ -1,21 +1,9 @@
-use Rattle.std.proofs.Common.{◌≡◌, ℕ, suc, ◌*◌, ◌/◌, ◌%◌, ◌<◌, ◌≤◌, Some, sym, refl, ap, ◌∙◌, subst, mod-lt, mul-le-mul, div-le_self, arith, ne_eqb}
+use Rattle.std.proofs.Common.{◌≡◌, ℕ, suc, ◌%◌, ◌<◌, Some, sym, ap, ◌∙◌, subst, mod-lt, arith, ne_eqb}
 use Rattle.field.specs.Field.{unless}
 use Rattle.prime.specs.Residues.{inverted, euclid}
 use Rattle.prime.specs.Euclid.{euclid_more, euclid_end}
 use Rattle.prime.specs.Equality.{residue_path}
 use Rattle.prime.proofs.residue.Residue.inverted.Goals as goal
-
-pub loop-r1-init : goal.loop-r1-init
-loop-r1-init g c = (omega arith, omega arith, omega arith, omega arith, (suc c.args.self.value, omega arith, refl))
-
-pub overflow_mul-less : goal.overflow_mul-less
-overflow_mul-less g c =
-    let q : c.loop-r1.r0 / c.loop-r1.r1 ≤ c.loop-r1.r0 = div-le_self _ _ in
-    let b : c.loop-r1.r0 / c.loop-r1.r1 * c.loop-r1.t1 ≤ 2147483647 * 2147483647 = mul-le-mul {n₂ = 2147483647} {m₂ = 2147483647} (omega arith) (omega arith) in
-    record { fits = omega arith }
-
-pub overflow_add-t2 : goal.overflow_add-t2
-overflow_add-t2 g c = record { fits = omega arith }
 
 pub loop-r1-preserved : goal.loop-r1-preserved
 loop-r1-preserved g c =

@@ -1,15 +1,16 @@
-use Rattle.std.proofs.Common.{◌≡◌, ◌-◌, ◌%◌, pos, nat_abs, sym, ap, ◌∙◌, arith, w32}
+use Rattle.std.proofs.Common.{◌≡◌, ◌-◌, ◌%◌, ◌<◌, pos, nat_abs, sym, ap, ◌∙◌, arith, w32}
 use lib.Signed.{lt_z}
 use Rattle.std.proofs.lemmas.Int.{to_z-of_z}
 use Rattle.field.specs.Field.{modulo}
 use Rattle.prime.specs.Equality.{residue_path}
 use Rattle.prime.specs.Remainders.{modulo-mod, modulo_negative, modulo_multiple, modulo_positive}
-use Rattle.prime.proofs.residue.Residue.of_signed.Goals as goal
-use Rattle.prime.proofs.residue.Residue.of_signed.Goals.{then-n-lt0+then-rest-gt0, else-n-lt0, else-n-lt0-via-then-n-lt0+else-rest-gt0, else-n-lt0-via-else-n-lt0}
+use Rattle.prime.proofs.arithmetic.ResidueField.image.Goals as goal
+use Rattle.prime.proofs.arithmetic.ResidueField.image.Goals.{then-n-lt0+then-rest-gt0, else-n-lt0, else-n-lt0-via-then-n-lt0+else-rest-gt0, else-n-lt0-via-else-n-lt0}
 
 pub returns : goal.returns
-returns g c h =
+returns g c =
     let n = c.args.n in
+    let h : 0 < g.row.P = omega arith in
     let same = to_z-of_z w32 n c.ranges.n in
     let below-zero = ap (λ z. lt_z z (pos 0)) (sym same) in
     let rest : c.unsigned_abs-rest.result % g.row.P ≡ nat_abs n % g.row.P = ap (λ k. k % g.row.P) (c.unsigned_abs-rest.ensures.value ∙ ap nat_abs same) in
