@@ -5,6 +5,7 @@ ghost use Rattle.board.specs.Ledger.{NoTrace};
 
 mod bank;
 mod book;
+mod display;
 mod game;
 mod grid;
 mod numbers;
@@ -16,8 +17,6 @@ pub use game::{Book, Grid, Move};
 pub use refusal::{Fault, Refusal};
 
 // A ledger fed the accepted moves alone stands as one fed all moves.
-pub fn refused_moves_leave_no_trace() -> u8
+pub fn refused_moves_leave_no_trace()
     ensures { NoTrace }
-{
-    0
-}
+{}
