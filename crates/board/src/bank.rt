@@ -5,7 +5,7 @@ ghost use Rattle.board.specs.Banks.{reached, room_for, filled, kept_or};
 
 use crate::refusal::Refusal;
 
-#[derive(Drop)]
+#[derive(Debug, Drop)]
 pub struct Bank<'a, T> {
     cells: &'a mut [T],
 }

@@ -1,4 +1,4 @@
-// The board: grids, moves, banks, books, and the refusals of the whole product.
+// The board: grids, moves, banks, books, the tags of questions, and the refusals of the whole product.
 #![tactic(auto)]
 
 ghost use Rattle.board.specs.Ledger.{NoTrace};
@@ -11,10 +11,12 @@ mod grid;
 mod numbers;
 mod readings;
 mod refusal;
+mod tag;
 
 pub use bank::{Bank, fill_cells};
 pub use game::{Book, Grid, Move};
 pub use refusal::{Fault, Refusal};
+pub use tag::Tag;
 
 // A ledger fed the accepted moves alone stands as one fed all moves.
 pub fn refused_moves_leave_no_trace()

@@ -43,9 +43,9 @@ pub(crate) fn claim_lines(
             Due::Open,
             Due::Word(Keyword::Claim),
             Due::Open,
-            Due::Number(terms.tag.0, Fault::Tag),
-            Due::Number(terms.tag.1, Fault::Tag),
-            Due::Number(terms.tag.2, Fault::Tag),
+            Due::Number(terms.tag.kind, Fault::Tag),
+            Due::Number(terms.tag.first, Fault::Tag),
+            Due::Number(terms.tag.second, Fault::Tag),
             Due::Close,
         ],
     )?;

@@ -17,12 +17,12 @@ module _ {K : Type 0} (F : FieldModel K) (xs : List K) (t : Terms) (c : ℤ) (p 
   first = written (sheet_marks p e t.rows t.columns)
 
   abbrev second : List ℕ
-  second = written (claim_marks t.tag.0 t.tag.1 t.tag.2 z)
+  second = written (claim_marks t.tag z)
 
   three_parts : text F t c xs ≡ first ++ (second ++ lines_from F xs 0)
   three_parts =
       text_lines F xs t c
-      ∙ sym (λ i. written (sheet_marks (p-is i) (e-is i) t.rows t.columns) ++ (written (claim_marks t.tag.0 t.tag.1 t.tag.2 (z-is i)) ++ lines_from F xs 0))
+      ∙ sym (λ i. written (sheet_marks (p-is i) (e-is i) t.rows t.columns) ++ (written (claim_marks t.tag (z-is i)) ++ lines_from F xs 0))
 
   start : Putting (text F t c xs) paper 0 paper 0 (text F t c xs)
   start = putting_none (text F t c xs) paper 0
