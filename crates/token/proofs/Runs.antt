@@ -2,9 +2,10 @@
 use Rattle.std.proofs.Common.{cond, not, take_while, ◌≡◌, ℕ, suc, ◌+◌, ◌-◌, ◌*◌, ◌^◌, ◌<◌, ◌≤◌, Bool, true, false, ◌&&◌, eqb, leb, List, [], ◌∷◌, length, get_or, take, drop, ℤ, neg_ℤ, Some, None, Option, sym, refl, ap, ◌∙◌, add-one, arith, lit<}
 use Rattle.std.specs.List.{list_all, prefix_len}
 use native.Mathlib.Nat.{pow-succ', pow-le-pow_right}
-use Rattle.std.proofs.lemmas.List.{drop_more, drop_all, take_rest}
+use Rattle.std.proofs.lemmas.List.{drop_more, drop_all}
+use Rattle.std.proofs.lemmas.List.Sums.{prefix_len-le-length}
 use Rattle.std.proofs.lemmas.List.Folds.{length-prefix_len}
-use Rattle.std.proofs.lemmas.Bool.{cond-true, cond-false, and_left, and_right, and_from, cond_both, le-leb, eq-eqb, ne_eqb}
+use Rattle.std.proofs.lemmas.Bool.{cond-false, and_left, and_right, and_from, cond_both, le-leb, ne_eqb}
 use Rattle.token.specs.Tokens.{is_stop, leading_run, leading_spaces, made_of, value_after, digits_value, signed_by, number_of, numeric, is_word, Token, Token.opening, Token.closing, Token.line_end, Token.sheet_end, Token.word, Token.number, Token.malformed, classed, token_at, width, line_ends}
 
 -- the run and the spaces at the front, in the library's words
@@ -60,28 +61,15 @@ room v i h k = let k9 : i ≤ 9 = omega arith in let p : 10 ^ i ≤ 10 ^ 9 = pow
 pub room_all : (v i : ℕ) → v < 10 ^ i → i ≤ 10 → v < 10 ^ 10
 room_all v i h k = let p : 10 ^ i ≤ 10 ^ 10 = pow-le-pow_right (lit< tt) k in omega arith
 
-pub number_minus : (bs : List ℕ) → 0 < length bs → get_or bs 0 0 ≡ 45 → number_of bs ≡ signed_by neg_ℤ (digits_value (drop 1 bs))
-number_minus [] h e = absurd (omega arith)
-number_minus (b ∷ bs) h e = cond-true (eqb b 45) (signed_by neg_ℤ (digits_value bs)) (signed_by (λ z. z) (digits_value (b ∷ bs))) (eq-eqb b 45 e)
-
 pub number_plain : (bs : List ℕ) → (0 < length bs → get_or bs 0 0 ≡ 45 → ⊥) → number_of bs ≡ signed_by (λ z. z) (digits_value bs)
 number_plain [] e = refl
 number_plain (b ∷ bs) e = cond-false (eqb b 45) (signed_by neg_ℤ (digits_value bs)) (signed_by (λ z. z) (digits_value (b ∷ bs))) (ne_eqb b 45 (e (omega arith)))
 
--- what `number_of` finds in its two arms
-pub by_minus : (bs : List ℕ) (o : Option ℕ) → 0 < length bs → get_or bs 0 0 ≡ 45 → o ≡ digits_value (take (length bs - 1) (drop 1 bs)) → signed_by neg_ℤ o ≡ number_of bs
-by_minus bs o h e d = ap (signed_by neg_ℤ) (d ∙ ap digits_value (take_rest bs 1)) ∙ sym (number_minus bs h e)
-
-pub by_plain : (bs : List ℕ) (o : Option ℕ) → (0 < length bs → get_or bs 0 0 ≡ 45 → ⊥) → o ≡ digits_value bs → signed_by (λ z. z) o ≡ number_of bs
-by_plain bs o e d = ap (signed_by (λ z. z)) d ∙ sym (number_plain bs e)
-
 pub spaces_le : (bs : List ℕ) → leading_spaces bs ≤ length bs
-spaces_le [] = omega arith
-spaces_le (b ∷ bs) = cond_both (eqb b 32) (suc (leading_spaces bs)) 0 (λ n. n ≤ suc (length bs)) (λ _. let h = spaces_le bs in omega arith) (λ _. omega arith)
+spaces_le bs = omega (arith, spaces_prefix bs, prefix_len-le-length (λ b. eqb b 32) bs)
 
 pub run_le : (bs : List ℕ) → length (leading_run bs) ≤ length bs
-run_le [] = omega arith
-run_le (b ∷ bs) = cond_both (is_stop b) [] (b ∷ leading_run bs) (λ r. length r ≤ suc (length bs)) (λ _. omega arith) (λ _. let h = run_le bs in omega arith)
+run_le bs = omega (arith, run_prefix bs, prefix_len-le-length (λ b. not (is_stop b)) bs)
 
 -- the run is the front of the bytes
 pub run_front : (bs : List ℕ) → take (length (leading_run bs)) bs ≡ leading_run bs

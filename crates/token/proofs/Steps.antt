@@ -1,15 +1,8 @@
 -- One step of the reader.
-use Rattle.std.proofs.Common.{eqb, take_while, ◌≡◌, ℕ, ◌+◌, ◌-◌, ◌^◌, ◌<◌, ◌≤◌, List, length, take, drop, pos, ◌-ℤ◌, neg_ℤ, sym, ap, ◌∙◌, arith, length-drop, w64, to_z, of_z}
+use Rattle.std.proofs.Common.{eqb, take_while, ◌≡◌, ℕ, ◌+◌, ◌-◌, ◌≤◌, List, length, take, drop, sym, ap, ◌∙◌, arith, length-drop}
 use Rattle.std.proofs.lemmas.List.{take_rest, drop-drop}
-use Rattle.std.proofs.lemmas.Int.{ints}
 use Rattle.token.specs.Tokens.{leading_spaces, Token, token_at, width, line_ends, Cursor, after_token}
 use Rattle.token.proofs.Runs.{spaces_taken, spaces_le, width_le, closes_le}
-
-pub plain_back : (n : ℕ) → n < 10 ^ 10 → to_z w64 n ≡ pos n
-plain_back n h = omega (arith, ints)
-
-pub minus_back : (n : ℕ) → n < 10 ^ 10 → to_z w64 (of_z w64 (pos 0 -ℤ to_z w64 n)) ≡ neg_ℤ (pos n)
-minus_back n h = omega (arith, ints)
 
 pub same_at : {a b : Cursor} → a.rest ≡ b.rest → a.line ≡ b.line → a.place ≡ b.place → a ≡ b
 same_at e f g = λ i. record { rest = e i; line = f i; place = g i }
