@@ -1,7 +1,8 @@
 -- Reading a sheet into a tray, value by value. Assumes nothing.
-use Rattle.std.proofs.Common.{◌≡◌, ℕ, suc, ◌+◌, ◌-◌, ◌<◌, ltb, List, [], ◌∷◌, ◌++◌, length, take, drop, set, replicate, ℤ, pos, Ok, Err, Result, sym, refl, ap, ◌∙◌, subst, append_assoc, arith, take-append-drop}
-use lib.ListN.{length-replicate}
-use Rattle.std.proofs.lemmas.List.{drop_more, set_at, replicate_more, take_more_set, map_push, drop-set-lt}
+use Rattle.std.proofs.Common.{true, false, ◌≡◌, ℕ, suc, ◌+◌, ◌-◌, ◌<◌, ltb, List, [], ◌∷◌, ◌++◌, length, take, drop, set, replicate, ℤ, pos, Ok, Err, Result, sym, refl, ap, ◌∙◌, subst, arith, take-append-drop}
+use borrow.Author.Tests.{clash}
+use Rattle.std.specs.Result.{is_err}
+use Rattle.std.proofs.lemmas.List.{take_more_set, map_push, drop-set-lt}
 use Rattle.std.proofs.lemmas.Bool.{cond-true, lt-ltb}
 use Rattle.field.specs.Field.{FieldModel}
 use Rattle.board.specs.Banks.{filled}
@@ -12,14 +13,6 @@ use Rattle.sheet.specs.declared.terms.Terms.{Terms}
 use Rattle.expect.specs.Dues.{pass}
 use Rattle.sheet.specs.Readings.{due, claim_due, lines, value_line, ending, paired, concluded, elements, valued, reading, claim_of, tray_of, Filled, read_answer, tray_after}
 use Rattle.expect.proofs.Passes.{on_first, stop_first}
-
--- the element at j is the next to become z
-pub clear_more : {K : Type 0} (z : K) (xs : List K) (j : ℕ) → j < length xs → set (filled j z xs) j z ≡ filled (j + 1) z xs
-clear_more z xs j h =
-    ap (λ ys. set (replicate j z ++ ys) j z) (drop_more xs j z h)
-    ∙ set_at (replicate j z) _ (drop (j + 1) xs) z j (length-replicate j z)
-    ∙ sym (append_assoc (replicate j z) (z ∷ []) (drop (j + 1) xs))
-    ∙ ap (λ ys. ys ++ drop (j + 1) xs) (replicate_more j z)
 
 -- the parts of values as the numbers that are kept
 abbrev pub flat : List (ℕ × ℕ) → List ℤ
@@ -104,15 +97,15 @@ module _ {K : Type 0} (F : FieldModel K) (t : Terms) (bs : List ℕ) where
   pub fills : (n : ℕ) (before after : List K) (o : Result (ℤ × List K) Refusal) → reading F t bs ≡ o → Filled F n o before after → Filled F n (reading F t bs) before after
   fills n before after o e f = subst (λ u. Filled F n u before after) (sym e) f
 
-  -- a fault that was told is the reading's
-  pub told : (o : Result (ℤ × List K) Refusal) (r : Refusal) → Err r ≡ claim_of F o → o ≡ Err r
-  told (Ok v) r e = absurd (let q : ◌≡◌ {A = ℕ} 0 1 = cc in omega arith)
-  told (Err r') r e = cc
+  -- after a claim the tray holds the values, and after a fault zeros, over whatever the fault left
+  module _ (n : ℕ) (before between : List K) where
+    pub values_kept : (o : Result (ℤ × List K) Refusal) → is_err (claim_of F o) ≡ false → Filled F n o before between → between ≡ tray_of F n o before
+    values_kept (Ok v) e f = f
+    values_kept (Err r) e f = absurd (clash (sym e))
 
-  -- where a claim was told, the tray holds the values
-  pub given : (n : ℕ) (before after : List K) (o : Result (ℤ × List K) Refusal) (c : ℤ) → Ok c ≡ claim_of F o → Filled F n o before after → after ≡ tray_of F n o before
-  given n before after (Ok v) c e f = f
-  given n before after (Err r) c e f = absurd (let q : ◌≡◌ {A = ℕ} 0 1 = cc in omega arith)
+    pub zeros_put : (o : Result (ℤ × List K) Refusal) → is_err (claim_of F o) ≡ true → Filled F n o before between → filled n F.zero between ≡ tray_of F n o before
+    zeros_put (Ok v) e f = absurd (clash e)
+    zeros_put (Err r) e f = ap (λ xs. replicate n F.zero ++ xs) f
 
   -- what read_sheet answers and leaves with a tray that is long enough
   module _ (tray : List K) (long : t.degree < length tray) where
@@ -121,11 +114,3 @@ module _ {K : Type 0} (F : FieldModel K) (t : Terms) (bs : List ℕ) where
 
     pub tray_after_lem : tray_after F t bs tray ≡ tray_of F (suc t.degree) (reading F t bs) tray
     tray_after_lem = cond-true (ltb t.degree (length tray)) (tray_of F (suc t.degree) (reading F t bs) tray) tray (lt-ltb t.degree (length tray) long)
-
-    -- zeros over whatever a fault left
-    pub cleared : (r : Refusal) (n : ℕ) (between after : List K) → reading F t bs ≡ Err r → drop (suc t.degree) between ≡ drop (suc t.degree) tray → n ≡ suc t.degree → after ≡ filled n F.zero between → after ≡ tray_after F t bs tray
-    cleared r n between after e same is f =
-        f ∙ ap (λ m. filled m F.zero between) is
-        ∙ ap (λ xs. replicate (suc t.degree) F.zero ++ xs) same
-        ∙ ap (λ o. tray_of F (suc t.degree) o tray) (sym e)
-        ∙ sym tray_after_lem
