@@ -16,9 +16,10 @@ fn fill<F: Field>(sheet: &[u8], terms: &Terms, tray: &mut [F]) -> Result<i64, Re
 {
     let mut reader = Reader::new(sheet);
     let claim = claim_lines::<F>(&mut reader, terms)?;
-    for j in 0..terms.degree as usize + 1 {
+    let values = &mut tray[..=terms.degree as usize];
+    for (j, value) in values.iter_mut().enumerate() {
         let (low, high) = value_line::<F>(&mut reader, j as u32)?;
-        tray[j] = F::of_parts(low, high);
+        *value = F::of_parts(low, high);
     }
     last_line(&mut reader)?;
     Ok(claim)
