@@ -6,6 +6,7 @@ ghost use Rattle.writer.specs.Papers.{Lays};
 
 use crate::mark::Mark;
 use crate::put::put_marks;
+use board::Tag;
 use expect::Keyword;
 
 // The first line: the characteristic, the degree, the rows and the columns.
@@ -33,9 +34,9 @@ pub(crate) fn put_sheet_line(paper: &mut [u8], at: usize, p: u32, e: u32, h: u32
 }
 
 // The claim's line: the tag and the claim.
-pub(crate) fn put_claim_line(paper: &mut [u8], at: usize, tag: (u32, u32, u32), claim: i64) -> usize
-    requires { at + length (written (claim_marks tag.0 tag.1 tag.2 claim)) ≤ length paper.old }
-    ensures { Lays (written (claim_marks tag.0 tag.1 tag.2 claim)) paper.old at paper.new result }
+pub(crate) fn put_claim_line(paper: &mut [u8], at: usize, tag: Tag, claim: i64) -> usize
+    requires { at + length (written (claim_marks tag claim)) ≤ length paper.old }
+    ensures { Lays (written (claim_marks tag claim)) paper.old at paper.new result }
 {
     put_marks(
         paper,
@@ -44,9 +45,9 @@ pub(crate) fn put_claim_line(paper: &mut [u8], at: usize, tag: (u32, u32, u32), 
             Mark::Open,
             Mark::Word(Keyword::Claim),
             Mark::Open,
-            Mark::Natural(tag.0 as u64),
-            Mark::Natural(tag.1 as u64),
-            Mark::Natural(tag.2 as u64),
+            Mark::Natural(tag.kind as u64),
+            Mark::Natural(tag.first as u64),
+            Mark::Natural(tag.second as u64),
             Mark::Close,
             Mark::Signed(claim),
             Mark::Close,
