@@ -6,11 +6,9 @@ use field::Field;
 // What is written is read back.
 pub fn reads_back<F: Field>()
     ensures { ReadsBack F.Field.model }
-{
-}
+{}
 
 // 9,216 bytes suffice for 253 values.
 pub fn text_fits<F: Field>()
     ensures { TextFits F.Field.model }
-{
-}
+{}
