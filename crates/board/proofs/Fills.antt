@@ -1,13 +1,9 @@
--- Cells that are filled one after the other. Assumes nothing.
-use Rattle.std.proofs.Common.{◌≡◌, ℕ, zero, suc, ◌+◌, ◌<◌, List, [], ◌∷◌, length, set, refl, ap, le_of_suc-le-suc, not-suc-le-zero, add-one}
-use Rattle.board.specs.Banks.{filled}
+-- Cells that one call after another fills alike. Assumes nothing.
+use Rattle.std.proofs.Common.{◌≡◌, List, [], ◌∷◌, length, replicate, refl, subst}
+use Rattle.std.specs.List.{FoldsTo}
 
-step : {A : Type 0} (n : ℕ) (x : A) (cells : List A) → n < length cells → set (filled n x cells) n x ≡ filled (suc n) x cells
-step zero x [] h = absurd (not-suc-le-zero h)
-step zero x (y ∷ ys) h = refl
-step (suc n) x [] h = absurd (not-suc-le-zero h)
-step (suc n) x (y ∷ ys) h = ap (λ r. x ∷ r) (step n x ys (le_of_suc-le-suc h))
-
--- one cell more
-pub filled_more : {A : Type 0} (n : ℕ) (x : A) (cells : List A) → n < length cells → set (filled n x cells) n x ≡ filled (n + 1) x cells
-filled_more n x cells h = rw add-one (step n x cells h)
+-- what calls give that each give x and change nothing
+pub all_alike : {P A : Type 0} (R : P → A → P → Type 0) (x : A) (p q : P) (xs : List A) → ((y : A) (r : P) → R p y r → (y ≡ x) × (r ≡ p)) → FoldsTo R p xs q → xs ≡ replicate (length xs) x
+all_alike R x p q [] same ran = refl
+all_alike R x p q (y ∷ ys) same (r, now, later) =
+    let h = same y r now in λ i. h.0 i ∷ all_alike R x p q ys same (subst (λ s. FoldsTo R s ys q) h.1 later) i

@@ -5,20 +5,9 @@ ghost use Rattle.board.specs.Banks.{reached, room_for, filled, kept_or};
 
 use crate::refusal::Refusal;
 
-#[derive(Drop)]
+#[derive(Debug, Drop)]
 pub struct Bank<'a, T> {
     cells: &'a mut [T],
-}
-
-// What stands in cell i.
-fn cell_at<T: Copy>(cells: &[T], i: usize) -> Option<T>
-    ensures { result ≡ slice_get cells.now i }
-{
-    if i < cells.len() {
-        Some(cells[i])
-    } else {
-        None
-    }
 }
 
 // Puts x into the first n cells of a slice.
@@ -26,9 +15,7 @@ pub fn fill_cells<T: Copy>(cells: &mut [T], n: usize, x: T)
     requires { n ≤ length cells.old }
     ensures { cells.new ≡ filled n x cells.old }
 {
-    for i in 0..n {
-        cells[i] = x;
-    }
+    cells[..n].fill_with(|| x);
 }
 
 impl<'a, T: Copy> Bank<'a, T> {
@@ -57,7 +44,7 @@ impl<'a, T: Copy> Bank<'a, T> {
     pub fn get(&self, i: usize) -> Option<T>
         ensures { result ≡ slice_get self.now.cells.now i }
     {
-        cell_at(self.cells, i)
+        self.cells.get(i).copied()
     }
 
     // Puts x into cell i; where there is no such cell, it refuses and nothing changes.
@@ -66,12 +53,12 @@ impl<'a, T: Copy> Bank<'a, T> {
         ensures cells { self.new.cells.now ≡ slice_set self.old.cells.now i x }
         ensures lender { self.new.cells.ghost_name ≡ self.old.cells.ghost_name }
     {
-        if i < self.cells.len() {
-            self.cells[i] = x;
-            Ok(())
-        } else {
-            Err(Refusal::BankShort)
+        // by index: of a write through `get_mut` a proof knows no element
+        if i >= self.cells.len() {
+            return Err(Refusal::BankShort);
         }
+        self.cells[i] = x;
+        Ok(())
     }
 
     // Puts x into every cell.

@@ -2,7 +2,7 @@
 ghost use Rattle.std.specs.Prelude.{◌≡◌, ◌%◌, ◌≤◌};
 
 // A board of cells in rows and columns. Cell i lies in row i div columns and column i mod columns.
-#[derive(Clone, Copy)]
+#[derive(Clone, Copy, Debug, PartialEq, Eq)]
 pub struct Grid {
     pub(crate) rows: u32,
     pub(crate) columns: u32,
@@ -14,14 +14,14 @@ pub struct Grid {
 }
 
 // A move: an amount, of any size, at a cell, on the board or not.
-#[derive(Clone, Copy)]
+#[derive(Clone, Copy, Debug, PartialEq, Eq)]
 pub struct Move {
     pub cell: u64,
     pub amount: i64,
 }
 
 // What an end keeps of its game: the grid, the weight of the accepted moves, and their number.
-#[derive(Drop)]
+#[derive(Debug, PartialEq, Eq, Drop)]
 pub struct Book {
     pub(crate) grid: Grid,
     pub(crate) weight: u32,

@@ -8,16 +8,7 @@ impl Fault {
     pub fn number(self) -> u8
         ensures { result ≡ fault_number self }
     {
-        match self {
-            Fault::Malformed => 30,
-            Fault::Unexpected => 31,
-            Fault::Field => 40,
-            Fault::Grid => 41,
-            Fault::Tag => 42,
-            Fault::Claim => 43,
-            Fault::Index => 44,
-            Fault::Part => 45,
-        }
+        self as u8
     }
 }
 

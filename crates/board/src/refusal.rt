@@ -4,21 +4,21 @@
 #[derive(Clone, Copy, PartialEq, Eq, Debug)]
 pub enum Fault {
     // A run that is neither a word nor a number.
-    Malformed,
+    Malformed = 30,
     // A token, or the sheet's end, where the grammar has another.
-    Unexpected,
+    Unexpected = 31,
     // The characteristic or the degree is not the field's.
-    Field,
+    Field = 40,
     // The rows or the columns are not the grid's.
-    Grid,
+    Grid = 41,
     // The tag is not the question's.
-    Tag,
+    Tag = 42,
     // The claim is outside the question's limits.
-    Claim,
+    Claim = 43,
     // The value line is not the next one.
-    Index,
+    Index = 44,
     // A part of a value is no part of an element.
-    Part,
+    Part = 45,
 }
 
 #[derive(Clone, Copy, PartialEq, Eq, Debug)]

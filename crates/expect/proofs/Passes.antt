@@ -1,18 +1,9 @@
 -- What is due, one expectation after another. Assumes nothing.
-use Rattle.std.proofs.Common.{◌≡◌, ℕ, ◌+◌, ◌<◌, ◌≤◌, Bool, false, List, [], ◌∷◌, ◌++◌, map, length, get_or, drop, ℤ, Ok, Err, Decides, sym, refl, ap, ◌∙◌, ⊎_elim}
-use Rattle.std.specs.Str.{bytes_eq}
-use Rattle.std.proofs.lemmas.Slice.Eq.{bytes_eq-Decides}
+use Rattle.std.proofs.Common.{◌≡◌, ℕ, ◌+◌, ◌<◌, ◌≤◌, List, [], ◌∷◌, ◌++◌, map, length, get_or, drop, ℤ, Ok, Err, sym, refl, ap, ◌∙◌}
 use Rattle.std.proofs.lemmas.List.{drop_more, drop_all}
-use Rattle.std.proofs.lemmas.Bool.{cases_Bool}
-use Rattle.std.proofs.lemmas.Bool.Decides.{not_from_Decides}
 use Rattle.board.specs.declared.refusal.Refusal.{Refusal}
 use Rattle.token.specs.Tokens.{Cursor}
 use Rattle.expect.specs.Dues.{Due, Passed, step, and_then, pass}
-
--- a word other than the one that is due
-pub differ : (s w text : List ℕ) (r : Bool) → Decides r (w ≡ text) → r ≡ false → text ≡ s → bytes_eq s w ≡ false
-differ s w text r d e same =
-    ⊎_elim (λ yes'. absurd (not_from_Decides r d e (sym (same ∙ (bytes_eq-Decides s w).0 yes')))) (λ no'. no') (cases_Bool (bytes_eq s w))
 
 -- a pass stops at the first refusal
 pub pass_append : (ds es : List Due) (kept : List ℤ) (s : Cursor) → pass (ds ++ es) kept s ≡ and_then (pass ds kept s) (λ more t. pass es more t)

@@ -2,7 +2,7 @@
 use crate::keyword::Keyword;
 use board::Fault;
 
-#[derive(Clone, Copy)]
+#[derive(Clone, Copy, PartialEq, Eq, Debug)]
 pub enum Due {
     Open,
     Close,

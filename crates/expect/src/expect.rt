@@ -1,5 +1,6 @@
 // The reader against what is due: each call reads one token or more, and refuses at the first that is wrong.
 ghost use Rattle.std.specs.Prelude.{◌≡◌, ◌<◌, List, map, ℤ, ◌≤ℤ◌, IfOk};
+ghost use Rattle.board.specs.declared.refusal.Refusal.{Refusal};
 ghost use Rattle.token.specs.Readers.{token_of, cursor_of};
 ghost use Rattle.expect.specs.Dues.{Due.within as Within, spelled, part_below, check, step, pass};
 ghost use Rattle.expect.specs.Expectations.{due_of, verdict_of, passed_on, passed_number, passed_part};
@@ -7,7 +8,7 @@ ghost use Rattle.expect.specs.Expectations.{due_of, verdict_of, passed_on, passe
 use crate::due::Due;
 use crate::keyword::Keyword;
 use board::{Fault, Refusal};
-use token::{Reader, Token};
+use token::{Found, Reader, Token};
 
 impl Keyword {
     // The bytes of the word.
@@ -29,47 +30,28 @@ impl Due {
     fn check(self, token: Token<'_>) -> Result<(), Fault>
         ensures { verdict_of result ≡ check (due_of self) (token_of token.entry) }
     {
-        if let Token::Malformed(_) = token {
-            return Err(Fault::Malformed);
+        match (self, token) {
+            (_, Token::Malformed(_)) => Err(Fault::Malformed),
+            (Due::Open, Token::Open)
+            | (Due::Close, Token::Close)
+            | (Due::LineEnd, Token::LineEnd)
+            | (Due::End, Token::End) => Ok(()),
+            (Due::Word(keyword), Token::Word(run)) if run == keyword.text() => Ok(()),
+            (Due::Number(n, _), Token::Number(_, z)) if z == i64::from(n) => Ok(()),
+            (Due::Number(_, fault), Token::Number(..)) => Err(fault),
+            _ => Err(Fault::Unexpected),
         }
-        match self {
-            Due::Open => match token {
-                Token::Open => Ok(()),
-                _ => Err(Fault::Unexpected),
-            },
-            Due::Close => match token {
-                Token::Close => Ok(()),
-                _ => Err(Fault::Unexpected),
-            },
-            Due::LineEnd => match token {
-                Token::LineEnd => Ok(()),
-                _ => Err(Fault::Unexpected),
-            },
-            Due::End => match token {
-                Token::End => Ok(()),
-                _ => Err(Fault::Unexpected),
-            },
-            Due::Word(keyword) => match token {
-                Token::Word(run) => {
-                    if run == keyword.text() {
-                        Ok(())
-                    } else {
-                        Err(Fault::Unexpected)
-                    }
-                }
-                _ => Err(Fault::Unexpected),
-            },
-            Due::Number(n, fault) => match token {
-                Token::Number(_, z) => {
-                    if z == i64::from(n) {
-                        Ok(())
-                    } else {
-                        Err(fault)
-                    }
-                }
-                _ => Err(Fault::Unexpected),
-            },
-        }
+    }
+}
+
+// A token's fault, told with its line and place.
+fn refusal_at(found: Found<'_>, fault: Fault) -> Refusal
+    ensures { result ≡ Refusal.Sheet fault found.entry.line found.entry.place }
+{
+    Refusal::Sheet {
+        fault,
+        line: found.line,
+        place: found.place,
     }
 }
 
@@ -78,13 +60,10 @@ fn expect(reader: &mut Reader<'_>, due: Due) -> Result<(), Refusal>
     ensures { (kept : List ℤ) → passed_on kept result (cursor_of reader.new) ≡ step (due_of due) kept (cursor_of reader.old) }
 {
     let found = reader.next();
+    // tried: the proof did not close with `map_err`, whose closure holds the token
     match due.check(found.token) {
         Ok(()) => Ok(()),
-        Err(fault) => Err(Refusal::Sheet {
-            fault,
-            line: found.line,
-            place: found.place,
-        }),
+        Err(fault) => Err(refusal_at(found, fault)),
     }
 }
 
@@ -110,21 +89,12 @@ pub fn number(
     ensures greatest { IfOk result (λ z. z ≤ℤ greatest) }
 {
     let found = reader.next();
-    let fault = match found.token {
-        Token::Number(_, z) => {
-            if least <= z && z <= greatest {
-                return Ok(z);
-            }
-            fault
-        }
-        Token::Malformed(_) => Fault::Malformed,
-        _ => Fault::Unexpected,
-    };
-    Err(Refusal::Sheet {
-        fault,
-        line: found.line,
-        place: found.place,
-    })
+    match found.token {
+        Token::Number(_, z) if (least..=greatest).contains(&z) => Ok(z),
+        Token::Number(..) => Err(refusal_at(found, fault)),
+        Token::Malformed(_) => Err(refusal_at(found, Fault::Malformed)),
+        _ => Err(refusal_at(found, Fault::Unexpected)),
+    }
 }
 
 // Reads a part below `limit`.

@@ -1,6 +1,7 @@
 -- What a sheet says, mark by mark, and how marks are laid out in bytes: with spaces before, between and after them, and with leading zeros. Assumes nothing.
 use Rattle.std.specs.Prelude.{◌≡◌, ℕ, suc, List, [], ◌∷◌, ◌++◌, map, replicate, ℤ, pos, Some}
 use Rattle.field.specs.Field.{FieldModel}
+use Rattle.board.specs.declared.tag.Tag.{Tag}
 use Rattle.token.specs.Tokens.{RunEnded, number_of}
 use Rattle.expect.specs.declared.keyword.Keyword.TheVariants.{Sheet, Grid, Claim, At, End}
 use Rattle.sheet.specs.declared.terms.Terms.{Terms}
@@ -18,9 +19,9 @@ sheet_marks p e h v =
     ∷ fixed opening ∷ fixed (word Grid) ∷ number (pos h) ∷ number (pos v) ∷ fixed closing ∷ fixed closing ∷ fixed line_end ∷ []
 
 -- the marks of the claim's line
-abbrev pub claim_marks : ℕ → ℕ → ℕ → ℤ → List Mark
-claim_marks k a b c =
-    fixed opening ∷ fixed (word Claim) ∷ fixed opening ∷ number (pos k) ∷ number (pos a) ∷ number (pos b) ∷ fixed closing ∷ number c ∷ fixed closing ∷ fixed line_end ∷ []
+abbrev pub claim_marks : Tag → ℤ → List Mark
+claim_marks t c =
+    fixed opening ∷ fixed (word Claim) ∷ fixed opening ∷ number (pos t.kind) ∷ number (pos t.first) ∷ number (pos t.second) ∷ fixed closing ∷ number c ∷ fixed closing ∷ fixed line_end ∷ []
 
 -- the marks of value line j, with a low and a high part
 abbrev pub value_marks : ℕ → ℕ × ℕ → List Mark
@@ -38,7 +39,7 @@ line_marks j (v ∷ vs) = value_marks j v ++ line_marks (suc j) vs
 
 -- the marks of the first two lines, at characteristic p and degree e
 abbrev pub head_marks : ℕ → ℕ → Terms → ℤ → List Mark
-head_marks p e t c = sheet_marks p e t.rows t.columns ++ claim_marks t.tag.0 t.tag.1 t.tag.2 c
+head_marks p e t c = sheet_marks p e t.rows t.columns ++ claim_marks t.tag c
 
 -- the marks of the sheet that states the claim c and values with these parts
 abbrev pub marks : ℕ → ℕ → Terms → ℤ → List (ℕ × ℕ) → List Mark

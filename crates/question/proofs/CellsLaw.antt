@@ -16,7 +16,7 @@ use Rattle.polynomial.proofs.Lagrange.{lagrange_basis, eval-basis, chi_here, chi
 use Rattle.polynomial.proofs.Sums.{get_or-listed, sum_single, sum_zeros, sum-add}
 use Rattle.question.specs.declared.outcome.Fit.{Fit}
 use Rattle.question.specs.declared.outcome.Fit.TheVariants as fit
-use Rattle.question.specs.declared.outcome.Tag.{Tag}
+use Rattle.board.specs.declared.tag.Tag.{Tag}
 use Rattle.question.specs.Question.{SmallTag, LawfulQuestion}
 use Rattle.question.specs.Cells.{cells_tally, cells_rule, cells_question, cell_question, cells_between, range_question}
 use Rattle.question.proofs.Grids.{AllowedGrid, allowed_grid, both_true, test_holds, row_below}

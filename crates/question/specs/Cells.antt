@@ -5,7 +5,7 @@ use Rattle.board.specs.Grids.{row_of, column_of}
 use Rattle.polynomial.specs.Lists.{listed}
 use Rattle.polynomial.specs.Interpolation.{chi}
 use Rattle.question.specs.declared.outcome.Fit.{Fit}
-use Rattle.question.specs.declared.outcome.Tag.{Tag}
+use Rattle.board.specs.declared.tag.Tag.{Tag}
 use Rattle.question.specs.Question.{QuestionModel, fits_if}
 
 -- the sum of the counts at the cells

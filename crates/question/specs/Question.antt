@@ -10,7 +10,7 @@ use Rattle.polynomial.specs.Interpolation.{node}
 use Rattle.polynomial.specs.Columns.{row}
 use Rattle.question.specs.declared.outcome.Fit.{Fit}
 use Rattle.question.specs.declared.outcome.Fit.TheVariants as fit
-use Rattle.question.specs.declared.outcome.Tag.{Tag}
+use Rattle.board.specs.declared.tag.Tag.{Tag}
 
 -- the meaning of a question over a field with the elements K
 pub record QuestionModel (K : Type 0) : Type 0 where

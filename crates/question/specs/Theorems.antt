@@ -4,7 +4,7 @@ use Rattle.field.specs.Field.{FieldModel}
 use Rattle.polynomial.specs.Lists.{Each, Distinct}
 use Rattle.question.specs.declared.outcome.Fit.{Fit}
 use Rattle.question.specs.declared.outcome.Fit.TheVariants as fit
-use Rattle.question.specs.declared.outcome.Tag.{Tag}
+use Rattle.board.specs.declared.tag.Tag.{Tag}
 use Rattle.question.specs.Question.{SmallTag, LawfulQuestion}
 use Rattle.question.specs.Cells.{cells_question, cell_question, range_question}
 use Rattle.question.specs.GoodsSums.{goods_question}

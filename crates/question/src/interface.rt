@@ -3,8 +3,8 @@ ghost use Rattle.std.specs.Prelude.{◌≡◌, length};
 ghost use Rattle.question.specs.declared.outcome.Fit.{Fit};
 ghost use Rattle.question.specs.Question.{QuestionModel, Within};
 
-use crate::outcome::{Fit, Tag};
-use board::Grid;
+use crate::outcome::Fit;
+use board::{Grid, Tag};
 use field::Field;
 
 // A question about a board's counts. Its meaning is one record, and each method answers its part of it: asked twice, a

@@ -5,8 +5,9 @@ mod interface;
 mod outcome;
 mod theorems;
 
+pub use board::Tag;
 pub use interface::Question;
-pub use outcome::{Fit, Tag};
+pub use outcome::Fit;
 pub use theorems::{
     cell_is_lawful, distinct_cells_are_lawful, goods_are_lawful, range_is_lawful,
     squares_are_lawful,

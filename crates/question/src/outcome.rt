@@ -1,16 +1,6 @@
-// What a question answers besides numbers and elements.
-
 // Whether a question fits a grid.
 #[derive(Clone, Copy, PartialEq, Eq, Debug)]
 pub enum Fit {
     Fits,
     DoesNotFit,
-}
-
-// The three numbers that name a question on a sheet.
-#[derive(Clone, Copy, PartialEq, Eq, Debug)]
-pub struct Tag {
-    pub kind: u32,
-    pub first: u32,
-    pub second: u32,
 }

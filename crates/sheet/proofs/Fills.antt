@@ -1,7 +1,9 @@
 -- Reading a sheet into a tray, value by value. Assumes nothing.
-use Rattle.std.proofs.Common.{◌≡◌, ℕ, suc, ◌+◌, ◌-◌, ◌<◌, ltb, List, [], ◌∷◌, ◌++◌, length, take, drop, set, replicate, ℤ, pos, Ok, Err, Result, sym, refl, ap, ◌∙◌, subst, append_assoc, arith, take-append-drop}
-use lib.ListN.{length-replicate}
-use Rattle.std.proofs.lemmas.List.{drop_more, set_at, replicate_more, take_more_set, map_push, drop-set-lt}
+use Rattle.std.proofs.Common.{true, false, ◌≡◌, ℕ, suc, ◌+◌, ◌-◌, ◌<◌, ltb, List, [], ◌∷◌, ◌++◌, length, take, drop, set, replicate, ℤ, pos, Ok, Err, Result, sym, refl, ap, ◌∙◌, subst, arith}
+use borrow.Author.Tests.{clash}
+use Rattle.std.specs.Result.{is_err}
+use lib.Seq.{drop-append_seam}
+use Rattle.std.proofs.lemmas.List.{take_all, take_more_set, map_push}
 use Rattle.std.proofs.lemmas.Bool.{cond-true, lt-ltb}
 use Rattle.field.specs.Field.{FieldModel}
 use Rattle.board.specs.Banks.{filled}
@@ -12,14 +14,6 @@ use Rattle.sheet.specs.declared.terms.Terms.{Terms}
 use Rattle.expect.specs.Dues.{pass}
 use Rattle.sheet.specs.Readings.{due, claim_due, lines, value_line, ending, paired, concluded, elements, valued, reading, claim_of, tray_of, Filled, read_answer, tray_after}
 use Rattle.expect.proofs.Passes.{on_first, stop_first}
-
--- the element at j is the next to become z
-pub clear_more : {K : Type 0} (z : K) (xs : List K) (j : ℕ) → j < length xs → set (filled j z xs) j z ≡ filled (j + 1) z xs
-clear_more z xs j h =
-    ap (λ ys. set (replicate j z ++ ys) j z) (drop_more xs j z h)
-    ∙ set_at (replicate j z) _ (drop (j + 1) xs) z j (length-replicate j z)
-    ∙ sym (append_assoc (replicate j z) (z ∷ []) (drop (j + 1) xs))
-    ∙ ap (λ ys. ys ++ drop (j + 1) xs) (replicate_more j z)
 
 -- the parts of values as the numbers that are kept
 abbrev pub flat : List (ℕ × ℕ) → List ℤ
@@ -34,11 +28,10 @@ pub paired_flat : (vs : List (ℕ × ℕ)) → paired (flat vs) ≡ vs
 paired_flat [] = refl
 paired_flat (v ∷ vs) = ap (λ ws. v ∷ ws) (paired_flat vs)
 
--- j of n value lines are read, and their values stand in the tray
-pub record Reached {K : Type 0} (F : FieldModel K) (t : Terms) (bs : List ℕ) (n j : ℕ) (c : ℤ) (s : Cursor) (before tray : List K) : Type 0 where
+-- j of n value lines are read, and their values stand in front
+pub record Reached {K : Type 0} (F : FieldModel K) (t : Terms) (bs : List ℕ) (n j : ℕ) (c : ℤ) (s : Cursor) (xs : List K) : Type 0 where
   pub parts : List (ℕ × ℕ)
-  pub values : take j tray ≡ elements F parts
-  pub others : drop n tray ≡ drop n before
+  pub values : take j xs ≡ elements F parts
   pub rest : pass (lines F.characteristic F.degree j (n - j)) (c ∷ flat parts) s ≡ pass (due F.characteristic F.degree t) [] (cursor_start bs)
 
 module _ {K : Type 0} (F : FieldModel K) (t : Terms) (bs : List ℕ) where
@@ -52,12 +45,11 @@ module _ {K : Type 0} (F : FieldModel K) (t : Terms) (bs : List ℕ) where
   pub claim_stops : (r : Refusal) → Err r ≡ pass (claim_due F.characteristic F.degree t) [] (cursor_start bs) → reading F t bs ≡ Err r
   claim_stops r e = stops r (stop_first (claim_due F.characteristic F.degree t) (lines F.characteristic F.degree 0 (suc t.degree)) [] (cursor_start bs) r e)
 
-  module _ (n : ℕ) (c : ℤ) (before : List K) where
-    pub none_read : n ≡ suc t.degree → (s : Cursor) → Ok (c ∷ [], s) ≡ pass (claim_due F.characteristic F.degree t) [] (cursor_start bs) → Reached F t bs n 0 c s before before
-    none_read is s e = record {
+  module _ (n : ℕ) (c : ℤ) where
+    pub none_read : n ≡ suc t.degree → (s : Cursor) → Ok (c ∷ [], s) ≡ pass (claim_due F.characteristic F.degree t) [] (cursor_start bs) → (xs : List K) → Reached F t bs n 0 c s xs
+    none_read is s e xs = record {
       parts = [];
       values = refl;
-      others = refl;
       rest =
           ap (λ m. pass (lines F.characteristic F.degree 0 m) (c ∷ []) s) (let k : n - 0 ≡ suc t.degree = omega arith in k)
           ∙ on_first (claim_due F.characteristic F.degree t) (lines F.characteristic F.degree 0 (suc t.degree)) [] (cursor_start bs) (c ∷ []) s e;
@@ -68,12 +60,11 @@ module _ {K : Type 0} (F : FieldModel K) (t : Terms) (bs : List ℕ) where
         ap (λ m. lines F.characteristic F.degree j m) (let k : n - j ≡ suc (n - (j + 1)) = omega arith in k)
         ∙ ap (λ i. value_line F.characteristic F.degree j ++ lines F.characteristic F.degree i (n - (j + 1))) (let k : suc j ≡ j + 1 = omega arith in k)
 
-    module _ (j : ℕ) (lt : j < n) (s : Cursor) (tray : List K) (f : Reached F t bs n j c s before tray) where
-      pub one_read : (low high : ℕ) (x : K) (s' : Cursor) → j < length tray → x ≡ F.make low high → Ok ((c ∷ flat f.parts) ++ pos low ∷ pos high ∷ [], s') ≡ pass (value_line F.characteristic F.degree j) (c ∷ flat f.parts) s → Reached F t bs n (j + 1) c s' before (set tray j x)
+    module _ (j : ℕ) (lt : j < n) (s : Cursor) (xs : List K) (f : Reached F t bs n j c s xs) where
+      pub one_read : (low high : ℕ) (x : K) (s' : Cursor) → j < length xs → x ≡ F.make low high → Ok ((c ∷ flat f.parts) ++ pos low ∷ pos high ∷ [], s') ≡ pass (value_line F.characteristic F.degree j) (c ∷ flat f.parts) s → Reached F t bs n (j + 1) c s' (set xs j x)
       one_read low high x s' inside is e = record {
         parts = f.parts ++ (low, high) ∷ [];
-        values = take_more_set tray j x inside ∙ ap (λ ys. ys ++ x ∷ []) f.values ∙ ap (λ y. elements F f.parts ++ y ∷ []) is ∙ sym (map_push (λ v. F.make v.0 v.1) f.parts (low, high));
-        others = drop-set-lt n tray j x lt ∙ f.others;
+        values = take_more_set xs j x inside ∙ ap (λ ys. ys ++ x ∷ []) f.values ∙ ap (λ y. elements F f.parts ++ y ∷ []) is ∙ sym (map_push (λ v. F.make v.0 v.1) f.parts (low, high));
         rest =
             ap (λ zs. pass (lines F.characteristic F.degree (j + 1) (n - (j + 1))) (c ∷ zs) s') (flat_push f.parts (low, high))
             ∙ on_first (value_line F.characteristic F.degree j) (lines F.characteristic F.degree (j + 1) (n - (j + 1))) (c ∷ flat f.parts) s _ s' e
@@ -87,7 +78,7 @@ module _ {K : Type 0} (F : FieldModel K) (t : Terms) (bs : List ℕ) where
           ∙ ap (λ ds. pass ds (c ∷ flat f.parts) s) (sym (line_next j lt))
           ∙ f.rest)
 
-    module _ (j : ℕ) (all : j ≡ n) (s : Cursor) (tray : List K) (f : Reached F t bs n j c s before tray) where
+    module _ (j : ℕ) (all : j ≡ n) (s : Cursor) (xs : List K) (f : Reached F t bs n j c s xs) where
       at_ending : pass ending (c ∷ flat f.parts) s ≡ pass (due F.characteristic F.degree t) [] (cursor_start bs)
       at_ending = ap (λ m. pass (lines F.characteristic F.degree j m) (c ∷ flat f.parts) s) (let k : 0 ≡ n - j = omega arith in k) ∙ f.rest
 
@@ -97,22 +88,28 @@ module _ {K : Type 0} (F : FieldModel K) (t : Terms) (bs : List ℕ) where
       pub all_read : (s' : Cursor) → Ok (c ∷ flat f.parts, s') ≡ pass ending (c ∷ flat f.parts) s → reading F t bs ≡ Ok (c, elements F f.parts)
       all_read s' e = says c f.parts s' (e ∙ at_ending)
 
-      pub tray_is : tray ≡ elements F f.parts ++ drop n before
-      tray_is = sym (take-append-drop n tray) ∙ (λ i. (ap (λ m. take m tray) (sym all) ∙ f.values) i ++ f.others i)
+      pub all_values : length xs ≡ n → xs ≡ elements F f.parts
+      all_values long = sym (take_all j xs (omega arith)) ∙ f.values
 
-  -- what is left in a tray, from what reading gives
-  pub fills : (n : ℕ) (before after : List K) (o : Result (ℤ × List K) Refusal) → reading F t bs ≡ o → Filled F n o before after → Filled F n (reading F t bs) before after
-  fills n before after o e f = subst (λ u. Filled F n u before after) (sym e) f
+  -- what is left in a tray whose front is ys: anything after a fault, and the values after a claim
+  module _ (n m : ℕ) (same : n ≡ m) (before ys : List K) (long : length ys ≡ n) where
+    pub fault_left : (r : Refusal) → reading F t bs ≡ Err r → Filled F m (reading F t bs) before (ys ++ drop n before)
+    fault_left r e =
+        subst (λ o. Filled F m o before (ys ++ drop n before)) (sym e)
+        (subst (λ k. drop k (ys ++ drop n before) ≡ drop m before) (long ∙ same) (drop-append_seam ys (drop n before) ∙ ap (λ k. drop k before) same))
 
-  -- a fault that was told is the reading's
-  pub told : (o : Result (ℤ × List K) Refusal) (r : Refusal) → Err r ≡ claim_of F o → o ≡ Err r
-  told (Ok v) r e = absurd (let q : ◌≡◌ {A = ℕ} 0 1 = cc in omega arith)
-  told (Err r') r e = cc
+    pub values_left : (c : ℤ) (xs : List K) → reading F t bs ≡ Ok (c, xs) → ys ≡ xs → Filled F m (reading F t bs) before (ys ++ drop n before)
+    values_left c xs e is = subst (λ o. Filled F m o before (ys ++ drop n before)) (sym e) (λ i. is i ++ drop (same i) before)
 
-  -- where a claim was told, the tray holds the values
-  pub given : (n : ℕ) (before after : List K) (o : Result (ℤ × List K) Refusal) (c : ℤ) → Ok c ≡ claim_of F o → Filled F n o before after → after ≡ tray_of F n o before
-  given n before after (Ok v) c e f = f
-  given n before after (Err r) c e f = absurd (let q : ◌≡◌ {A = ℕ} 0 1 = cc in omega arith)
+  -- after a claim the tray holds the values, and after a fault zeros, over whatever the fault left
+  module _ (n : ℕ) (before between : List K) where
+    pub values_kept : (o : Result (ℤ × List K) Refusal) → is_err (claim_of F o) ≡ false → Filled F n o before between → between ≡ tray_of F n o before
+    values_kept (Ok v) e f = f
+    values_kept (Err r) e f = absurd (clash (sym e))
+
+    pub zeros_put : (o : Result (ℤ × List K) Refusal) → is_err (claim_of F o) ≡ true → Filled F n o before between → filled n F.zero between ≡ tray_of F n o before
+    zeros_put (Ok v) e f = absurd (clash e)
+    zeros_put (Err r) e f = ap (λ xs. replicate n F.zero ++ xs) f
 
   -- what read_sheet answers and leaves with a tray that is long enough
   module _ (tray : List K) (long : t.degree < length tray) where
@@ -121,11 +118,3 @@ module _ {K : Type 0} (F : FieldModel K) (t : Terms) (bs : List ℕ) where
 
     pub tray_after_lem : tray_after F t bs tray ≡ tray_of F (suc t.degree) (reading F t bs) tray
     tray_after_lem = cond-true (ltb t.degree (length tray)) (tray_of F (suc t.degree) (reading F t bs) tray) tray (lt-ltb t.degree (length tray) long)
-
-    -- zeros over whatever a fault left
-    pub cleared : (r : Refusal) (n : ℕ) (between after : List K) → reading F t bs ≡ Err r → drop (suc t.degree) between ≡ drop (suc t.degree) tray → n ≡ suc t.degree → after ≡ filled n F.zero between → after ≡ tray_after F t bs tray
-    cleared r n between after e same is f =
-        f ∙ ap (λ m. filled m F.zero between) is
-        ∙ ap (λ xs. replicate (suc t.degree) F.zero ++ xs) same
-        ∙ ap (λ o. tray_of F (suc t.degree) o tray) (sym e)
-        ∙ sym tray_after_lem

@@ -19,7 +19,7 @@ abbrev pub front : ℕ → ℕ → Terms → List Due
 front p e t =
     the opening ∷ the (word Sheet) ∷ equal p fault.Field ∷ equal e fault.Field
     ∷ the opening ∷ the (word Grid) ∷ equal t.rows fault.Grid ∷ equal t.columns fault.Grid ∷ the closing ∷ the closing ∷ the line_end
-    ∷ the opening ∷ the (word Claim) ∷ the opening ∷ equal t.tag.0 fault.Tag ∷ equal t.tag.1 fault.Tag ∷ equal t.tag.2 fault.Tag ∷ the closing ∷ []
+    ∷ the opening ∷ the (word Claim) ∷ the opening ∷ equal t.tag.kind fault.Tag ∷ equal t.tag.first fault.Tag ∷ equal t.tag.second fault.Tag ∷ the closing ∷ []
 
 -- the end of the claim's line
 abbrev pub form_end : List Due

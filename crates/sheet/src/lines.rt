@@ -8,31 +8,31 @@ ghost use Rattle.expect.specs.Expectations.{passed_on, passed_number, passed_par
 use crate::terms::Terms;
 use board::{Fault, Refusal};
 use expect::{Due, Keyword, number, part, pass};
+use field::Field;
 use token::Reader;
 
-// High parts are below this, at characteristic p and degree e.
-fn high_limit(p: u32, e: u32) -> u32
-    ensures { result ≡ high_limit p e }
+// High parts are below this.
+fn high_limit<F: Field>() -> u32
+    ensures { result ≡ high_limit F.Field.model.characteristic F.Field.model.degree }
 {
-    if e == 1 { 1 } else { p }
+    if F::degree() == 1 {
+        1
+    } else {
+        F::characteristic()
+    }
 }
 
-// Reads the sheet's line and the claim's line, at characteristic p and degree e.
-pub(crate) fn claim_lines(
-    reader: &mut Reader<'_>,
-    p: u32,
-    e: u32,
-    terms: &Terms,
-) -> Result<i64, Refusal>
-    ensures { (kept : List ℤ) → passed_number kept result (cursor_of reader.new) ≡ pass (claim_due p e terms.now) kept (cursor_of reader.old) }
+// Reads the sheet's line and the claim's line.
+pub(crate) fn claim_lines<F: Field>(reader: &mut Reader<'_>, terms: &Terms) -> Result<i64, Refusal>
+    ensures { (kept : List ℤ) → passed_number kept result (cursor_of reader.new) ≡ pass (claim_due F.Field.model.characteristic F.Field.model.degree terms.now) kept (cursor_of reader.old) }
 {
     pass(
         reader,
         &[
             Due::Open,
             Due::Word(Keyword::Sheet),
-            Due::Number(p, Fault::Field),
-            Due::Number(e, Fault::Field),
+            Due::Number(F::characteristic(), Fault::Field),
+            Due::Number(F::degree(), Fault::Field),
             Due::Open,
             Due::Word(Keyword::Grid),
             Due::Number(terms.rows, Fault::Grid),
@@ -43,9 +43,9 @@ pub(crate) fn claim_lines(
             Due::Open,
             Due::Word(Keyword::Claim),
             Due::Open,
-            Due::Number(terms.tag.0, Fault::Tag),
-            Due::Number(terms.tag.1, Fault::Tag),
-            Due::Number(terms.tag.2, Fault::Tag),
+            Due::Number(terms.tag.kind, Fault::Tag),
+            Due::Number(terms.tag.first, Fault::Tag),
+            Due::Number(terms.tag.second, Fault::Tag),
             Due::Close,
         ],
     )?;
@@ -54,17 +54,12 @@ pub(crate) fn claim_lines(
     Ok(claim)
 }
 
-// Reads value line j, at characteristic p and degree e.
-pub(crate) fn value_line(
-    reader: &mut Reader<'_>,
-    p: u32,
-    e: u32,
-    j: u32,
-) -> Result<(u32, u32), Refusal>
-    ensures read { (kept : List ℤ) → passed_parts kept result (cursor_of reader.new) ≡ pass (value_line p e j) kept (cursor_of reader.old) }
-    ensures low { IfOk result (λ parts. parts.0 < p) }
-    ensures high { IfOk result (λ parts. parts.1 < p) }
-    ensures only { IfOk result (λ parts. (e ≡ 1 → parts.1 ≡ 0)) }
+// Reads the parts of value line j.
+pub(crate) fn value_line<F: Field>(reader: &mut Reader<'_>, j: u32) -> Result<(u32, u32), Refusal>
+    ensures read { (kept : List ℤ) → passed_parts kept result (cursor_of reader.new) ≡ pass (value_line F.Field.model.characteristic F.Field.model.degree j) kept (cursor_of reader.old) }
+    ensures low { IfOk result (λ parts. parts.0 < F.Field.model.characteristic) }
+    ensures high { IfOk result (λ parts. parts.1 < F.Field.model.characteristic) }
+    ensures only { IfOk result (λ parts. (F.Field.model.degree ≡ 1 → parts.1 ≡ 0)) }
 {
     pass(
         reader,
@@ -75,8 +70,8 @@ pub(crate) fn value_line(
             Due::Open,
         ],
     )?;
-    let low = part(reader, p)?;
-    let high = part(reader, high_limit(p, e))?;
+    let low = part(reader, F::characteristic())?;
+    let high = part(reader, high_limit::<F>())?;
     pass(reader, &[Due::Close, Due::Close, Due::LineEnd])?;
     Ok((low, high))
 }

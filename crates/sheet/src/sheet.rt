@@ -1,11 +1,10 @@
 // Reading a sheet into a tray of the caller's.
-ghost use Rattle.std.specs.Prelude.{◌≡◌, suc, ◌<◌, ◌≤◌, length};
-ghost use Rattle.board.specs.Banks.{filled};
+ghost use Rattle.std.specs.Prelude.{◌≡◌, suc, ◌<◌, length};
 ghost use Rattle.sheet.specs.Readings.{reading, claim_of, Filled, read_answer, tray_after};
 
 use crate::lines::{claim_lines, last_line, value_line};
 use crate::terms::Terms;
-use board::Refusal;
+use board::{Refusal, fill_cells};
 use field::Field;
 use token::Reader;
 
@@ -15,26 +14,15 @@ fn fill<F: Field>(sheet: &[u8], terms: &Terms, tray: &mut [F]) -> Result<i64, Re
     ensures answer { result ≡ claim_of F.Field.model (reading F.Field.model terms.now sheet.now) }
     ensures tray { Filled F.Field.model (suc terms.now.degree) (reading F.Field.model terms.now sheet.now) tray.old tray.new }
 {
-    let p = F::characteristic();
-    let e = F::degree();
     let mut reader = Reader::new(sheet);
-    let claim = claim_lines(&mut reader, p, e, terms)?;
-    for j in 0..terms.degree as usize + 1 {
-        let (low, high) = value_line(&mut reader, p, e, j as u32)?;
-        tray[j] = F::of_parts(low, high);
+    let claim = claim_lines::<F>(&mut reader, terms)?;
+    let values = &mut tray[..=terms.degree as usize];
+    for (j, value) in values.iter_mut().enumerate() {
+        let (low, high) = value_line::<F>(&mut reader, j as u32)?;
+        *value = F::of_parts(low, high);
     }
     last_line(&mut reader)?;
     Ok(claim)
-}
-
-// Puts zero into the first n elements.
-fn clear<F: Field>(tray: &mut [F], n: usize)
-    requires { n ≤ length tray.old }
-    ensures { tray.new ≡ filled n F.Field.model.zero tray.old }
-{
-    for j in 0..n {
-        tray[j] = F::zero();
-    }
 }
 
 // Reads a sheet: leaves its values in the first degree + 1 elements of the tray and answers its claim, or leaves zeros there and tells its first fault.
@@ -46,11 +34,9 @@ pub fn read_sheet<F: Field>(sheet: &[u8], terms: &Terms, tray: &mut [F]) -> Resu
     if tray.len() <= degree {
         return Err(Refusal::TrayShort);
     }
-    match fill(sheet, terms, tray) {
-        Ok(claim) => Ok(claim),
-        Err(refusal) => {
-            clear(tray, degree + 1);
-            Err(refusal)
-        }
+    let answer = fill(sheet, terms, tray);
+    if answer.is_err() {
+        fill_cells(tray, degree + 1, F::zero());
     }
+    answer
 }

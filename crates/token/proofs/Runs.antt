@@ -1,33 +1,37 @@
 -- Runs, spaces and classes of bytes, one byte at a time.
-use Rattle.std.proofs.Common.{◌≡◌, ℕ, suc, ◌+◌, ◌-◌, ◌*◌, ◌^◌, ◌<◌, ◌≤◌, Bool, true, false, ◌&&◌, eqb, leb, List, [], ◌∷◌, length, get_or, take, drop, ℤ, neg_ℤ, Some, None, Option, sym, refl, ap, ◌∙◌, add-one, arith, lit<}
+use Rattle.std.proofs.Common.{cond, not, take_while, ◌≡◌, ℕ, suc, ◌+◌, ◌-◌, ◌*◌, ◌^◌, ◌<◌, ◌≤◌, Bool, true, false, ◌&&◌, eqb, leb, List, [], ◌∷◌, length, get_or, take, drop, ℤ, neg_ℤ, Some, None, Option, sym, refl, ap, ◌∙◌, add-one, arith, lit<}
+use Rattle.std.specs.List.{list_all, prefix_len}
 use native.Mathlib.Nat.{pow-succ', pow-le-pow_right}
-use Rattle.std.proofs.lemmas.List.{drop_more, drop_all, take_rest}
-use Rattle.std.proofs.lemmas.Bool.{cond-true, cond-false, and_left, and_right, and_from, cond_both, le-leb, eq-eqb, ne_eqb}
-use Rattle.token.specs.Tokens.{is_stop, leading_run, leading_spaces, each_byte, made_of, value_after, digits_value, signed_by, number_of, numeric, is_word, Token, Token.opening, Token.closing, Token.line_end, Token.sheet_end, Token.word, Token.number, Token.malformed, classed, token_at, width, line_ends}
+use Rattle.std.proofs.lemmas.List.{drop_more, drop_all}
+use Rattle.std.proofs.lemmas.List.Sums.{prefix_len-le-length}
+use Rattle.std.proofs.lemmas.List.Folds.{length-prefix_len}
+use Rattle.std.proofs.lemmas.Bool.{cond-false, and_left, and_right, and_from, cond_both, le-leb, ne_eqb}
+use Rattle.token.specs.Tokens.{is_stop, leading_run, leading_spaces, made_of, value_after, digits_value, signed_by, number_of, numeric, is_word, Token, Token.opening, Token.closing, Token.line_end, Token.sheet_end, Token.word, Token.number, Token.malformed, classed, token_at, width, line_ends}
 
-pub run_more : (bs : List ℕ) (i : ℕ) → i < length bs → is_stop (get_or bs i 0) ≡ false → length (leading_run (drop i bs)) ≡ suc (length (leading_run (drop (i + 1) bs)))
-run_more bs i h e = ap (λ xs. length (leading_run xs)) (drop_more bs i 0 h) ∙ ap length (cond-false (is_stop (get_or bs i 0)) [] (get_or bs i 0 ∷ leading_run (drop (i + 1) bs)) e)
+-- the run and the spaces at the front, in the library's words
+run_prefix : (bs : List ℕ) → prefix_len (λ b. not (is_stop b)) bs ≡ length (leading_run bs)
+run_prefix [] = refl
+run_prefix (b ∷ bs) =
+    let e = run_prefix bs in
+    elim (is_stop b) as (λ t. cond (not t) (1 + prefix_len (λ c. not (is_stop c)) bs) 0 ≡ length (cond t [] (b ∷ leading_run bs))) [ true ↦ refl | false ↦ omega arith ]
 
-pub run_stop : (bs : List ℕ) (i : ℕ) → i < length bs → is_stop (get_or bs i 0) ≡ true → length (leading_run (drop i bs)) ≡ 0
-run_stop bs i h e = ap (λ xs. length (leading_run xs)) (drop_more bs i 0 h) ∙ ap length (cond-true (is_stop (get_or bs i 0)) [] (get_or bs i 0 ∷ leading_run (drop (i + 1) bs)) e)
+spaces_prefix : (bs : List ℕ) → prefix_len (λ b. eqb b 32) bs ≡ leading_spaces bs
+spaces_prefix [] = refl
+spaces_prefix (b ∷ bs) =
+    let e = spaces_prefix bs in
+    elim (eqb b 32) as (λ t. cond t (1 + prefix_len (λ c. eqb c 32) bs) 0 ≡ cond t (suc (leading_spaces bs)) 0) [ true ↦ omega arith | false ↦ refl ]
 
-pub run_end : (bs : List ℕ) (i : ℕ) → length bs ≤ i → length (leading_run (drop i bs)) ≡ 0
-run_end bs i h = ap (λ xs. length (leading_run xs)) (drop_all i bs h)
+pub run_taken : (bs : List ℕ) → length (take_while (λ b. not (is_stop b)) bs) ≡ length (leading_run bs)
+run_taken bs = length-prefix_len (λ b. not (is_stop b)) bs ∙ run_prefix bs
 
-pub spaces_more : (bs : List ℕ) (i : ℕ) → i < length bs → eqb (get_or bs i 0) 32 ≡ true → leading_spaces (drop i bs) ≡ suc (leading_spaces (drop (i + 1) bs))
-spaces_more bs i h e = ap leading_spaces (drop_more bs i 0 h) ∙ cond-true (eqb (get_or bs i 0) 32) (suc (leading_spaces (drop (i + 1) bs))) 0 e
+pub spaces_taken : (bs : List ℕ) → length (take_while (λ b. eqb b 32) bs) ≡ leading_spaces bs
+spaces_taken bs = length-prefix_len (λ b. eqb b 32) bs ∙ spaces_prefix bs
 
-pub spaces_stop : (bs : List ℕ) (i : ℕ) → i < length bs → eqb (get_or bs i 0) 32 ≡ false → leading_spaces (drop i bs) ≡ 0
-spaces_stop bs i h e = ap leading_spaces (drop_more bs i 0 h) ∙ cond-false (eqb (get_or bs i 0) 32) (suc (leading_spaces (drop (i + 1) bs))) 0 e
+pub each_more : (p : ℕ → Bool) (bs : List ℕ) (i : ℕ) → i < length bs → list_all p (drop i bs) ≡ (p (get_or bs i 0) && list_all p (drop (i + 1) bs))
+each_more p bs i h = ap (list_all p) (drop_more bs i 0 h)
 
-pub spaces_end : (bs : List ℕ) (i : ℕ) → length bs ≤ i → leading_spaces (drop i bs) ≡ 0
-spaces_end bs i h = ap leading_spaces (drop_all i bs h)
-
-pub each_more : (p : ℕ → Bool) (bs : List ℕ) (i : ℕ) → i < length bs → each_byte p (drop i bs) ≡ (p (get_or bs i 0) && each_byte p (drop (i + 1) bs))
-each_more p bs i h = ap (each_byte p) (drop_more bs i 0 h)
-
-pub each_end : (p : ℕ → Bool) (bs : List ℕ) (i : ℕ) → length bs ≤ i → each_byte p (drop i bs) ≡ true
-each_end p bs i h = ap (each_byte p) (drop_all i bs h)
+pub each_end : (p : ℕ → Bool) (bs : List ℕ) (i : ℕ) → length bs ≤ i → list_all p (drop i bs) ≡ true
+each_end p bs i h = ap (list_all p) (drop_all i bs h)
 
 pub value_more : (n : ℕ) (bs : List ℕ) (i : ℕ) → i < length bs → value_after n (drop i bs) ≡ value_after (n * 10 + (get_or bs i 0 - 48)) (drop (i + 1) bs)
 value_more n bs i h = ap (value_after n) (drop_more bs i 0 h)
@@ -35,18 +39,18 @@ value_more n bs i h = ap (value_after n) (drop_more bs i 0 h)
 pub value_end : (n : ℕ) (bs : List ℕ) (i : ℕ) → length bs ≤ i → value_after n (drop i bs) ≡ n
 value_end n bs i h = ap (value_after n) (drop_all i bs h)
 
-pub made_of_no : (p : ℕ → Bool) (n : ℕ) (bs : List ℕ) (i : ℕ) → i < length bs → p (get_or bs i 0) ≡ false → each_byte p (drop i bs) ≡ each_byte p bs → made_of p n bs ≡ false
+pub made_of_no : (p : ℕ → Bool) (n : ℕ) (bs : List ℕ) (i : ℕ) → i < length bs → p (get_or bs i 0) ≡ false → list_all p (drop i bs) ≡ list_all p bs → made_of p n bs ≡ false
 made_of_no p n bs i h e same =
-    and_right (leb 1 (length bs)) (leb (length bs) n && each_byte p bs)
-    (and_right (leb (length bs) n) (each_byte p bs) (sym same ∙ each_more p bs i h ∙ and_left (p (get_or bs i 0)) (each_byte p (drop (i + 1) bs)) e))
+    and_right (leb 1 (length bs)) (leb (length bs) n && list_all p bs)
+    (and_right (leb (length bs) n) (list_all p bs) (sym same ∙ each_more p bs i h ∙ and_left (p (get_or bs i 0)) (list_all p (drop (i + 1) bs)) e))
 
-pub made_of_yes : (p : ℕ → Bool) (n : ℕ) (bs : List ℕ) → 0 < length bs → length bs ≤ n → each_byte p bs ≡ true → made_of p n bs ≡ true
+pub made_of_yes : (p : ℕ → Bool) (n : ℕ) (bs : List ℕ) → 0 < length bs → length bs ≤ n → list_all p bs ≡ true → made_of p n bs ≡ true
 made_of_yes p n bs some few all =
-    and_from (leb 1 (length bs)) (leb (length bs) n && each_byte p bs) (le-leb 1 (length bs) some)
-    (and_from (leb (length bs) n) (each_byte p bs) (le-leb (length bs) n few) all)
+    and_from (leb 1 (length bs)) (leb (length bs) n && list_all p bs) (le-leb 1 (length bs) some)
+    (and_from (leb (length bs) n) (list_all p bs) (le-leb (length bs) n few) all)
 
-pub each_next : (p : ℕ → Bool) (bs : List ℕ) (i : ℕ) → i < length bs → p (get_or bs i 0) ≡ true → each_byte p (drop i bs) ≡ each_byte p bs → each_byte p (drop (i + 1) bs) ≡ each_byte p bs
-each_next p bs i h e same = sym (each_more p bs i h ∙ ap (λ b. b && each_byte p (drop (i + 1) bs)) e) ∙ same
+pub each_next : (p : ℕ → Bool) (bs : List ℕ) (i : ℕ) → i < length bs → p (get_or bs i 0) ≡ true → list_all p (drop i bs) ≡ list_all p bs → list_all p (drop (i + 1) bs) ≡ list_all p bs
+each_next p bs i h e same = sym (each_more p bs i h ∙ ap (λ b. b && list_all p (drop (i + 1) bs)) e) ∙ same
 
 pub grown : (v d i : ℕ) → v < 10 ^ i → d < 10 → v * 10 + d < 10 ^ (i + 1)
 grown v d i h k = rw (add-one, pow-succ') (omega arith)
@@ -57,28 +61,15 @@ room v i h k = let k9 : i ≤ 9 = omega arith in let p : 10 ^ i ≤ 10 ^ 9 = pow
 pub room_all : (v i : ℕ) → v < 10 ^ i → i ≤ 10 → v < 10 ^ 10
 room_all v i h k = let p : 10 ^ i ≤ 10 ^ 10 = pow-le-pow_right (lit< tt) k in omega arith
 
-pub number_minus : (bs : List ℕ) → 0 < length bs → get_or bs 0 0 ≡ 45 → number_of bs ≡ signed_by neg_ℤ (digits_value (drop 1 bs))
-number_minus [] h e = absurd (omega arith)
-number_minus (b ∷ bs) h e = cond-true (eqb b 45) (signed_by neg_ℤ (digits_value bs)) (signed_by (λ z. z) (digits_value (b ∷ bs))) (eq-eqb b 45 e)
-
 pub number_plain : (bs : List ℕ) → (0 < length bs → get_or bs 0 0 ≡ 45 → ⊥) → number_of bs ≡ signed_by (λ z. z) (digits_value bs)
 number_plain [] e = refl
 number_plain (b ∷ bs) e = cond-false (eqb b 45) (signed_by neg_ℤ (digits_value bs)) (signed_by (λ z. z) (digits_value (b ∷ bs))) (ne_eqb b 45 (e (omega arith)))
 
--- what `number_of` finds in its two arms
-pub by_minus : (bs : List ℕ) (o : Option ℕ) → 0 < length bs → get_or bs 0 0 ≡ 45 → o ≡ digits_value (take (length bs - 1) (drop 1 bs)) → signed_by neg_ℤ o ≡ number_of bs
-by_minus bs o h e d = ap (signed_by neg_ℤ) (d ∙ ap digits_value (take_rest bs 1)) ∙ sym (number_minus bs h e)
-
-pub by_plain : (bs : List ℕ) (o : Option ℕ) → (0 < length bs → get_or bs 0 0 ≡ 45 → ⊥) → o ≡ digits_value bs → signed_by (λ z. z) o ≡ number_of bs
-by_plain bs o e d = ap (signed_by (λ z. z)) d ∙ sym (number_plain bs e)
-
 pub spaces_le : (bs : List ℕ) → leading_spaces bs ≤ length bs
-spaces_le [] = omega arith
-spaces_le (b ∷ bs) = cond_both (eqb b 32) (suc (leading_spaces bs)) 0 (λ n. n ≤ suc (length bs)) (λ _. let h = spaces_le bs in omega arith) (λ _. omega arith)
+spaces_le bs = omega (arith, spaces_prefix bs, prefix_len-le-length (λ b. eqb b 32) bs)
 
 pub run_le : (bs : List ℕ) → length (leading_run bs) ≤ length bs
-run_le [] = omega arith
-run_le (b ∷ bs) = cond_both (is_stop b) [] (b ∷ leading_run bs) (λ r. length r ≤ suc (length bs)) (λ _. omega arith) (λ _. let h = run_le bs in omega arith)
+run_le bs = omega (arith, run_prefix bs, prefix_len-le-length (λ b. not (is_stop b)) bs)
 
 -- the run is the front of the bytes
 pub run_front : (bs : List ℕ) → take (length (leading_run bs)) bs ≡ leading_run bs
@@ -116,5 +107,5 @@ token_run (b ∷ bs) some n40 n41 n10 =
     cond-false (eqb b 40) opening _ (ne_eqb b 40 n40) ∙ cond-false (eqb b 41) closing _ (ne_eqb b 41 n41) ∙ cond-false (eqb b 10) line_end (classed (leading_run (b ∷ bs))) (ne_eqb b 10 n10)
 
 -- what `token_at` finds in its last arm
-pub by_run : (bs : List ℕ) (n : ℕ) (t : Token) → (length bs < 1 → ⊥) → (get_or bs 0 0 ≡ 40 → ⊥) → (get_or bs 0 0 ≡ 41 → ⊥) → (get_or bs 0 0 ≡ 10 → ⊥) → n ≡ length (leading_run bs) → t ≡ classed (take n bs) → t ≡ token_at bs
-by_run bs n t some n40 n41 n10 e d = d ∙ ap (λ m. classed (take m bs)) e ∙ ap classed (run_front bs) ∙ sym (token_run bs some n40 n41 n10)
+pub by_run : (bs : List ℕ) (n : ℕ) (t : Token) → (length bs < 1 → ⊥) → (get_or bs 0 0 ≡ 40 → ⊥) → (get_or bs 0 0 ≡ 41 → ⊥) → (get_or bs 0 0 ≡ 10 → ⊥) → n ≡ length (take_while (λ b. not (is_stop b)) bs) → t ≡ classed (take n bs) → t ≡ token_at bs
+by_run bs n t some n40 n41 n10 e d = d ∙ ap (λ m. classed (take m bs)) (e ∙ run_taken bs) ∙ ap classed (run_front bs) ∙ sym (token_run bs some n40 n41 n10)

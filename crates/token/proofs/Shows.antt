@@ -3,7 +3,8 @@ use Rattle.std.proofs.Common.{◌≡◌, ℕ, zero, suc, ◌<◌, Bool, true, fa
 use Rattle.std.specs.Char.{is_ascii_lowercase, is_ascii_digit}
 use Rattle.std.proofs.lemmas.Bool.{cond-true, cond-false, cond_both, cases_Bool, and_parts, and_from, and_left, and_right, eqb-true, not-true, leb-true, or_parts}
 use Rattle.std.proofs.lemmas.Bool.Decides.{nat_tests}
-use Rattle.token.specs.Tokens.{RunEnded, is_stop, leading_run, leading_spaces, each_byte, made_of, is_word, is_digits, digits_value, signed_by, number_of, numeric, classed, token_at, Token, Token.opening, Token.closing, Token.line_end, Token.sheet_end, Token.word, Token.number, Token.malformed}
+use Rattle.std.specs.List.{list_all}
+use Rattle.token.specs.Tokens.{RunEnded, is_stop, leading_run, leading_spaces, made_of, is_word, is_digits, digits_value, signed_by, number_of, numeric, classed, token_at, Token, Token.opening, Token.closing, Token.line_end, Token.sheet_end, Token.word, Token.number, Token.malformed}
 
 -- spaces, then what is left
 pub spaces_split : (bs : List ℕ) → bs ≡ replicate (leading_spaces bs) 32 ++ drop (leading_spaces bs) bs
@@ -27,7 +28,7 @@ skip_close (b ∷ bs) =
 
 -- no byte of w ends a run
 abbrev pub solid : List ℕ → Bool
-solid w = each_byte (λ b. not (is_stop b)) w
+solid w = list_all (λ b. not (is_stop b)) w
 
 -- w is the run at the front of bs
 pub record Runs (bs w : List ℕ) : Type 0 where
@@ -70,9 +71,9 @@ shows (b ∷ bs) =
     (λ e. (runs_on (b ∷ bs), e))
     (λ _. shows_numeric (b ∷ bs) (leading_run (b ∷ bs)) (runs_on (b ∷ bs)) (number_of (leading_run (b ∷ bs))) refl))))
 
-each_weaker : (p q : ℕ → Bool) → ((b : ℕ) → p b ≡ true → q b ≡ true) → (w : List ℕ) → each_byte p w ≡ true → each_byte q w ≡ true
+each_weaker : (p q : ℕ → Bool) → ((b : ℕ) → p b ≡ true → q b ≡ true) → (w : List ℕ) → list_all p w ≡ true → list_all q w ≡ true
 each_weaker p q h [] e = refl
-each_weaker p q h (b ∷ bs) e = let ps = and_parts (p b) (each_byte p bs) e in and_from (q b) (each_byte q bs) (h b ps.0) (each_weaker p q h bs ps.1)
+each_weaker p q h (b ∷ bs) e = let ps = and_parts (p b) (list_all p bs) e in and_from (q b) (list_all q bs) (h b ps.0) (each_weaker p q h bs ps.1)
 
 lower_solid : (b : ℕ) → is_ascii_lowercase b ≡ true → not (is_stop b) ≡ true
 lower_solid b h = grind (arith, nat_tests)
@@ -83,10 +84,10 @@ digit_solid b h = grind (arith, nat_tests)
 digit_not_lower : (b : ℕ) → is_ascii_digit b ≡ true → is_ascii_lowercase b ≡ false
 digit_not_lower b h = grind (arith, nat_tests)
 
-made_of_parts : (p : ℕ → Bool) (n : ℕ) (w : List ℕ) → made_of p n w ≡ true → (0 < length w) × (each_byte p w ≡ true)
+made_of_parts : (p : ℕ → Bool) (n : ℕ) (w : List ℕ) → made_of p n w ≡ true → (0 < length w) × (list_all p w ≡ true)
 made_of_parts p n w e =
-    let a = and_parts (leb 1 (length w)) (leb (length w) n && each_byte p w) e in
-    (leb-true 1 (length w) a.0, (and_parts (leb (length w) n) (each_byte p w) a.1).1)
+    let a = and_parts (leb 1 (length w)) (leb (length w) n && list_all p w) e in
+    (leb-true 1 (length w) a.0, (and_parts (leb (length w) n) (list_all p w) a.1).1)
 
 run_solid : (w rest : List ℕ) → solid w ≡ true → RunEnded rest → leading_run (w ++ rest) ≡ w
 run_solid [] [] s e = refl
@@ -139,7 +140,7 @@ minus_solid : (b : ℕ) (bs : List ℕ) → b ≡ 45 → solid bs ≡ true → s
 minus_solid b bs e s = ap (λ x. not (is_stop x) && solid bs) e ∙ s
 
 not_word : (b : ℕ) (bs : List ℕ) → is_ascii_lowercase b ≡ false → is_word (b ∷ bs) ≡ false
-not_word b bs e = and_right (leb 1 (suc (length bs))) _ (and_right (leb (suc (length bs)) 8) _ (and_left (is_ascii_lowercase b) (each_byte is_ascii_lowercase bs) e))
+not_word b bs e = and_right (leb 1 (suc (length bs))) _ (and_right (leb (suc (length bs)) 8) _ (and_left (is_ascii_lowercase b) (list_all is_ascii_lowercase bs) e))
 
 -- a number is one run, and no word
 pub record Lone (w : List ℕ) : Type 0 where
@@ -163,7 +164,7 @@ lone_number (b ∷ bs) z e = ⊎_elim minus plain (cases_Bool (eqb b 45))
         let d = signed_digits (λ y. y) (b ∷ bs) z (sym (cond-false (eqb b 45) (signed_by neg_ℤ (digits_value bs)) (signed_by (λ y. y) (digits_value (b ∷ bs))) h) ∙ e) in
         record {
           one = digits_solid (b ∷ bs) d;
-          other = not_word b bs (digit_not_lower b (and_parts (is_ascii_digit b) (each_byte is_ascii_digit bs) (made_of_parts is_ascii_digit 10 (b ∷ bs) d).1).0);
+          other = not_word b bs (digit_not_lower b (and_parts (is_ascii_digit b) (list_all is_ascii_digit bs) (made_of_parts is_ascii_digit 10 (b ∷ bs) d).1).0);
         }
 
 -- which token is seen at the bytes of a word or a number

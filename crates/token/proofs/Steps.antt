@@ -1,15 +1,8 @@
 -- One step of the reader.
-use Rattle.std.proofs.Common.{◌≡◌, ℕ, ◌+◌, ◌-◌, ◌^◌, ◌<◌, ◌≤◌, List, length, take, drop, pos, ◌-ℤ◌, neg_ℤ, sym, ap, ◌∙◌, arith, length-drop, w64, to_z, of_z}
+use Rattle.std.proofs.Common.{eqb, take_while, ◌≡◌, ℕ, ◌+◌, ◌-◌, ◌≤◌, List, length, take, drop, sym, ap, ◌∙◌, arith, length-drop}
 use Rattle.std.proofs.lemmas.List.{take_rest, drop-drop}
-use Rattle.std.proofs.lemmas.Int.{ints}
 use Rattle.token.specs.Tokens.{leading_spaces, Token, token_at, width, line_ends, Cursor, after_token}
-use Rattle.token.proofs.Runs.{spaces_le, width_le, closes_le}
-
-pub plain_back : (n : ℕ) → n < 10 ^ 10 → to_z w64 n ≡ pos n
-plain_back n h = omega (arith, ints)
-
-pub minus_back : (n : ℕ) → n < 10 ^ 10 → to_z w64 (of_z w64 (pos 0 -ℤ to_z w64 n)) ≡ neg_ℤ (pos n)
-minus_back n h = omega (arith, ints)
+use Rattle.token.proofs.Runs.{spaces_taken, spaces_le, width_le, closes_le}
 
 pub same_at : {a b : Cursor} → a.rest ≡ b.rest → a.line ≡ b.line → a.place ≡ b.place → a ≡ b
 same_at e f g = λ i. record { rest = e i; line = f i; place = g i }
@@ -18,9 +11,9 @@ same_at e f g = λ i. record { rest = e i; line = f i; place = g i }
 abbrev pub from_on : List ℕ → ℕ → List ℕ
 from_on s k = take (length s - k) (drop k s)
 
-module _ (s : List ℕ) (k n w m : ℕ) (t : Token) (inside : k ≤ length s) (sp : n ≡ leading_spaces (from_on s k)) (tok : t ≡ token_at (from_on (from_on s k) n)) (wide : w ≡ width t) (ends : m ≡ line_ends t) where
+module _ (s : List ℕ) (k n w m : ℕ) (t : Token) (inside : k ≤ length s) (sp : n ≡ length (take_while (λ b. eqb b 32) (from_on s k))) (tok : t ≡ token_at (from_on (from_on s k) n)) (wide : w ≡ width t) (ends : m ≡ line_ends t) where
   spaces_are : n ≡ leading_spaces (drop k s)
-  spaces_are = sp ∙ ap leading_spaces (take_rest s k)
+  spaces_are = sp ∙ spaces_taken (from_on s k) ∙ ap leading_spaces (take_rest s k)
 
   pub token_is : t ≡ token_at (drop (leading_spaces (drop k s)) (drop k s))
   token_is = tok ∙ ap token_at (take_rest (from_on s k) n ∙ ap (drop n) (take_rest s k) ∙ ap (λ j. drop j (drop k s)) spaces_are)

@@ -1,5 +1,6 @@
 -- The bytes of a sheet, cut into tokens, with the line and the place of each. Assumes nothing.
 use Rattle.std.specs.Prelude.{◌≡◌, ℕ, suc, ◌+◌, ◌-◌, ◌*◌, Bool, true, cond, ◌&&◌, ◌||◌, List, [], ◌∷◌, length, drop, ℤ, pos, neg_ℤ, Some, None, Option, ◌==◌, nat_le}
+use Rattle.std.specs.List.{list_all}
 use Rattle.std.specs.Char.{is_ascii_lowercase, is_ascii_digit}
 use Rattle.std.specs.Str.{bytes_eq}
 
@@ -27,14 +28,9 @@ abbrev pub line_ends_in : List ℕ → ℕ
 line_ends_in [] = 0
 line_ends_in (b ∷ bs) = cond (b == 10) (suc (line_ends_in bs)) (line_ends_in bs)
 
--- whether a test holds of each byte
-abbrev pub each_byte : (ℕ → Bool) → List ℕ → Bool
-each_byte p [] = true
-each_byte p (b ∷ bs) = p b && each_byte p bs
-
 -- bytes of one class, at least one and at most n
 abbrev pub made_of : (ℕ → Bool) → ℕ → List ℕ → Bool
-made_of p n bs = nat_le 1 (length bs) && (nat_le (length bs) n && each_byte p bs)
+made_of p n bs = nat_le 1 (length bs) && (nat_le (length bs) n && list_all p bs)
 
 -- one to eight letters a to z
 abbrev pub is_word : List ℕ → Bool

@@ -1,6 +1,8 @@
 // Runs of bytes: how long they are, and what they say.
-ghost use Rattle.std.specs.Prelude.{◌≡◌, ◌^◌, ◌<◌, length, IfSome};
-ghost use Rattle.token.specs.Tokens.{is_stop, leading_run, leading_spaces, is_word, digits_value, number_of};
+ghost use Rattle.std.specs.Prelude.{◌≡◌, ◌==◌, ◌^◌, ◌<◌, not, length, take_while, IfSome};
+ghost use Rattle.std.specs.List.{list_all};
+ghost use Rattle.std.specs.Char.{is_ascii_lowercase};
+ghost use Rattle.token.specs.Tokens.{is_stop, is_word, digits_value, number_of};
 
 // Whether a byte ends a run: a space, a bracket or a line end.
 fn is_stop(b: u8) -> bool
@@ -11,39 +13,30 @@ fn is_stop(b: u8) -> bool
 
 // The length of the run at the front.
 pub(crate) fn run_length(bytes: &[u8]) -> usize
-    ensures { result ≡ length (leading_run bytes.now) }
+    ensures { result ≡ length (take_while (λ b. not (is_stop b)) bytes.now) }
 {
-    let mut n = 0;
-    while n < bytes.len() && !is_stop(bytes[n]) {
-        n += 1;
-    }
-    n
+    bytes.iter().take_while(|b| !is_stop(**b)).count()
 }
 
 // How many spaces stand at the front.
 pub(crate) fn leading_spaces(bytes: &[u8]) -> usize
-    ensures { result ≡ leading_spaces bytes.now }
+    ensures { result ≡ length (take_while (λ b. b == 32) bytes.now) }
 {
-    let mut n = 0;
-    while n < bytes.len() && bytes[n] == b' ' {
-        n += 1;
-    }
-    n
+    bytes.iter().take_while(|b| **b == b' ').count()
+}
+
+// Whether each byte is a letter a to z.
+fn all_letters(run: &[u8]) -> bool
+    ensures { result ≡ list_all is_ascii_lowercase run.now }
+{
+    run.iter().all(|b| b.is_ascii_lowercase())
 }
 
 // Whether a run is one to eight letters.
 pub(crate) fn is_word(run: &[u8]) -> bool
     ensures { result ≡ is_word run.now }
 {
-    if run.is_empty() || run.len() > 8 {
-        return false;
-    }
-    for b in run {
-        if !b.is_ascii_lowercase() {
-            return false;
-        }
-    }
-    true
+    (1..=8).contains(&run.len()) && all_letters(run)
 }
 
 // The value of one to ten digits.
@@ -51,7 +44,7 @@ fn digits_value(digits: &[u8]) -> Option<u64>
     ensures value { result ≡ digits_value digits.now }
     ensures small { IfSome result (λ n. n < 10 ^ 10) }
 {
-    if digits.is_empty() || digits.len() > 10 {
+    if !(1..=10).contains(&digits.len()) {
         return None;
     }
     let mut value = 0;
@@ -69,14 +62,7 @@ pub(crate) fn number_of(run: &[u8]) -> Option<i64>
     ensures { result ≡ number_of run.now }
 {
     match run {
-        [] => None,
-        [b'-', digits @ ..] => {
-            let n = digits_value(digits)?;
-            Some(-(n as i64))
-        }
-        digits => {
-            let n = digits_value(digits)?;
-            Some(n as i64)
-        }
+        [b'-', digits @ ..] => digits_value(digits).map(|n| -(n as i64)),
+        digits => digits_value(digits).map(|n| n as i64),
     }
 }

@@ -2,7 +2,7 @@
 ghost use Rattle.std.specs.Prelude.{◌+◌, ◌≤◌, length};
 
 // What stands at a place of the sheet: a token, a run that is none, or the end. A run is part of the sheet.
-#[derive(Clone, Copy)]
+#[derive(Clone, Copy, PartialEq, Eq, Debug)]
 pub enum Token<'a> {
     Open,
     Close,
@@ -17,7 +17,7 @@ pub enum Token<'a> {
 }
 
 // A token with the line (from 1) and the byte place (from 0) of its first byte.
-#[derive(Clone, Copy)]
+#[derive(Clone, Copy, PartialEq, Eq, Debug)]
 pub struct Found<'a> {
     pub token: Token<'a>,
     pub line: usize,
@@ -25,7 +25,7 @@ pub struct Found<'a> {
 }
 
 // Goes over a sheet without copying it.
-#[derive(Drop)]
+#[derive(Debug, Drop)]
 pub struct Reader<'a> {
     pub(crate) sheet: &'a [u8],
     pub(crate) cursor: usize,

@@ -4,6 +4,7 @@ use Rattle.std.specs.Fmt.{signed_decimal}
 use Rattle.std.proofs.lemmas.Fmt.{length-decimal-le}
 use Rattle.std.proofs.lemmas.List.{drop_more, drop_all}
 use Rattle.field.specs.Field.{FieldModel, LawfulField}
+use Rattle.board.specs.declared.tag.Tag.{Tag}
 use Rattle.expect.specs.declared.keyword.Keyword.TheVariants.{Sheet, Grid, Claim, At}
 use Rattle.sheet.specs.declared.terms.Terms.{Terms}
 use Rattle.expect.specs.Dues.{Fixed.opening, Fixed.closing, Fixed.line_end, Fixed.word}
@@ -25,9 +26,9 @@ value_split : (j : ℕ) (v : ℕ × ℕ) (ns : List Mark) → written (value_mar
 value_split j v ns =
     written_split false (fixed opening ∷ fixed (word At) ∷ number (pos j) ∷ fixed opening ∷ number (pos v.0) ∷ number (pos v.1) ∷ fixed closing ∷ fixed closing ∷ []) ns
 
-claim_split : (k a b : ℕ) (c : ℤ) (ns : List Mark) → written (claim_marks k a b c ++ ns) ≡ written (claim_marks k a b c) ++ written ns
-claim_split k a b c ns =
-    written_split false (fixed opening ∷ fixed (word Claim) ∷ fixed opening ∷ number (pos k) ∷ number (pos a) ∷ number (pos b) ∷ fixed closing ∷ number c ∷ fixed closing ∷ []) ns
+claim_split : (t : Tag) (c : ℤ) (ns : List Mark) → written (claim_marks t c ++ ns) ≡ written (claim_marks t c) ++ written ns
+claim_split t c ns =
+    written_split false (fixed opening ∷ fixed (word Claim) ∷ fixed opening ∷ number (pos t.kind) ∷ number (pos t.first) ∷ number (pos t.second) ∷ fixed closing ∷ number c ∷ fixed closing ∷ []) ns
 
 sheet_split : (p e h v : ℕ) (ns : List Mark) → written (sheet_marks p e h v ++ ns) ≡ written (sheet_marks p e h v) ++ written ns
 sheet_split p e h v ns =
@@ -50,10 +51,10 @@ module _ {K : Type 0} (F : FieldModel K) (xs : List K) where
   lines_done j h = ap (λ ys. written (line_marks j (parts_of F ys))) (drop_all j xs h)
 
   -- the whole text: the sheet's line, the claim's line and the others
-  pub text_lines : (t : Terms) (c : ℤ) → text F t c xs ≡ written (sheet_marks F.characteristic F.degree t.rows t.columns) ++ (written (claim_marks t.tag.0 t.tag.1 t.tag.2 c) ++ lines_from 0)
+  pub text_lines : (t : Terms) (c : ℤ) → text F t c xs ≡ written (sheet_marks F.characteristic F.degree t.rows t.columns) ++ (written (claim_marks t.tag c) ++ lines_from 0)
   text_lines t c =
-      sheet_split F.characteristic F.degree t.rows t.columns (claim_marks t.tag.0 t.tag.1 t.tag.2 c ++ line_marks 0 (parts_of F xs))
-      ∙ ap (λ bs. written (sheet_marks F.characteristic F.degree t.rows t.columns) ++ bs) (claim_split t.tag.0 t.tag.1 t.tag.2 c (line_marks 0 (parts_of F xs)))
+      sheet_split F.characteristic F.degree t.rows t.columns (claim_marks t.tag c ++ line_marks 0 (parts_of F xs))
+      ∙ ap (λ bs. written (sheet_marks F.characteristic F.degree t.rows t.columns) ++ bs) (claim_split t.tag c (line_marks 0 (parts_of F xs)))
 
 short_decimal : (n : ℕ) → n < 10 ^ 10 → length (decimal n) ≤ 10
 short_decimal n h = length-decimal-le 10 n (omega arith) h (omega arith)
@@ -70,11 +71,11 @@ sheet_length p e h v h₁ h₂ h₃ h₄ =
     let n₄ = short_decimal v h₄ in
     simp length-append (omega arith)
 
-claim_length : (k a b : ℕ) (c : ℤ) → k < 10 ^ 10 → a < 10 ^ 10 → b < 10 ^ 10 → nat_abs c < 10 ^ 19 → length (written (claim_marks k a b c)) ≤ 64
-claim_length k a b c h₁ h₂ h₃ h₄ =
-    let n₁ = short_decimal k h₁ in
-    let n₂ = short_decimal a h₂ in
-    let n₃ = short_decimal b h₃ in
+claim_length : (t : Tag) (c : ℤ) → t.kind < 10 ^ 10 → t.first < 10 ^ 10 → t.second < 10 ^ 10 → nat_abs c < 10 ^ 19 → length (written (claim_marks t c)) ≤ 64
+claim_length t c h₁ h₂ h₃ h₄ =
+    let n₁ = short_decimal t.kind h₁ in
+    let n₂ = short_decimal t.first h₂ in
+    let n₃ = short_decimal t.second h₃ in
     let n₄ = short_signed c h₄ in
     simp length-append (omega arith)
 
@@ -98,9 +99,9 @@ module _ {K : Type 0} (F : FieldModel K) (L : LawfulField F) where
   pub text_fits : TextFits F
   text_fits t c xs fit small few =
       let a = sheet_length F.characteristic F.degree t.rows t.columns (characteristic_small F L) (degree_small F L) fit.rows_fit fit.columns_fit in
-      let b = claim_length t.tag.0 t.tag.1 t.tag.2 c fit.kind_fits fit.first_fits fit.second_fits small in
+      let b = claim_length t.tag c fit.kind_fits fit.first_fits fit.second_fits small in
       let l = lines_length xs 0 (omega arith) in
       let e = ap length (text_lines F xs t c) in
-      let f = length-append (written (sheet_marks F.characteristic F.degree t.rows t.columns)) (written (claim_marks t.tag.0 t.tag.1 t.tag.2 c) ++ lines_from F xs 0) in
-      let g = length-append (written (claim_marks t.tag.0 t.tag.1 t.tag.2 c)) (lines_from F xs 0) in
+      let f = length-append (written (sheet_marks F.characteristic F.degree t.rows t.columns)) (written (claim_marks t.tag c) ++ lines_from F xs 0) in
+      let g = length-append (written (claim_marks t.tag c)) (lines_from F xs 0) in
       omega arith

@@ -1,17 +1,15 @@
 -- Putting bytes on the paper, one after another. Assumes nothing.
-use Rattle.std.proofs.Common.{◌≡◌, ℕ, ◌+◌, ◌-◌, ◌/◌, ◌%◌, ◌^◌, ◌<◌, ◌≤◌, Bool, List, [], ◌∷◌, ◌++◌, map, length, get_or, take, drop, set, ℤ, pos, negsuc, nat_abs, ◌<ℤ◌, decimal, sym, refl, ap, ◌∙◌, subst, append_assoc, append-nil, arith, length-append, take-append-drop}
+use Rattle.std.proofs.Common.{true, cond, ◌≡◌, ℕ, ◌+◌, ◌-◌, ◌/◌, ◌%◌, ◌^◌, ◌<◌, ◌≤◌, Bool, List, [], ◌∷◌, ◌++◌, map, length, get_or, take, drop, ℤ, pos, negsuc, nat_abs, ◌<ℤ◌, decimal, sym, refl, ap, ◌∙◌, subst, append_assoc, append-nil, arith, length-append, length-drop, length-take-le, take-append-drop}
 use borrow.Rule.Slice.PartMut.{put_mid}
 use Rattle.std.specs.Fmt.{signed_decimal}
 use Rattle.std.proofs.lemmas.Fmt.{decimal_step}
-use Rattle.std.proofs.lemmas.List.{take_more_set, drop-set-lt, drop-drop, drop_more, drop_all}
+use Rattle.std.proofs.lemmas.List.{drop-drop, drop_more, drop_all}
 use Rattle.std.proofs.lemmas.Int.{ints}
+use Rattle.std.proofs.lemmas.Bool.{and_from}
 use Rattle.std.proofs.lemmas.Slice.{take-put_mid, drop-put_mid}
 use Rattle.layout.specs.Marks.{Mark}
-use Rattle.writer.specs.Texts.{spaced_bytes, spaced_after, written_on}
+use Rattle.writer.specs.Texts.{mark_bytes, spaced_bytes, spaced_before, spaced_after, written_on}
 use Rattle.writer.specs.Papers.{Lays}
-
-pub lays_byte : (b : ℕ) (xs : List ℕ) (at : ℕ) → at < length xs → Lays (b ∷ []) xs at (set xs at b) (at + 1)
-lays_byte b xs at h = record { end_is = refl; front = take_more_set xs at b h; back = drop-set-lt (at + 1) xs at b (omega arith) }
 
 pub lays_bytes : (bs xs ys : List ℕ) (at : ℕ) → ys ≡ bs → at + length bs ≤ length xs → Lays bs xs at (put_mid at (at + length bs - at) xs ys) (at + length bs)
 lays_bytes bs xs ys at e h =
@@ -37,6 +35,17 @@ lays_more {bs} {cs} {p} {q} {r} {a} {m} {e} x y =
       front = y.front ∙ ap (λ zs. zs ++ cs) x.front ∙ append_assoc (take a p) bs cs;
       back = y.back ∙ on q ∙ ap (drop (e - m)) x.back ∙ sym (on p);
     }
+
+-- the paper stays as long as it was
+pub lays_length : {bs p q : List ℕ} {a e : ℕ} → Lays bs p a q e → a + length bs ≤ length p → length q ≡ length p
+lays_length {bs} {p} {q} {a} {e} x h =
+    let w : q ≡ (take a p ++ bs) ++ drop e p = sym (take-append-drop e q) ∙ (λ i. x.front i ++ x.back i) in
+    let l = ap length w ∙ length-append (take a p ++ bs) (drop e p) in
+    let m = length-append (take a p) bs in
+    let t = length-take-le a p (omega arith) in
+    let d = length-drop e p in
+    let i = x.end_is in
+    omega arith
 
 -- the same bytes, in other words
 pub lays_as : {bs cs p q : List ℕ} {a e : ℕ} → bs ≡ cs → Lays bs p a q e → Lays cs p a q e
@@ -73,6 +82,9 @@ putting_room {rest = rest} p cs more e =
     let f = p.lays.end_is in
     omega arith
 
+pub putting_length : {total before paper rest : List ℕ} {at end : ℕ} → Putting total before at paper end rest → at + length total ≤ length before → length paper ≡ length before
+putting_length {rest = rest} p h = lays_length p.lays (let a = ap length p.split in let b = length-append p.sofar rest in omega arith)
+
 pub putting_more : {total before paper after rest : List ℕ} {at end end' : ℕ} → Putting total before at paper end rest → (cs more : List ℕ) → rest ≡ cs ++ more → Lays cs paper end after end' → Putting total before at after end' more
 putting_more p cs more e l = record { sofar = p.sofar ++ cs; lays = lays_more p.lays l; split = append_assoc p.sofar cs more ∙ ap (λ zs. p.sofar ++ zs) (sym e) ∙ p.split }
 
@@ -96,3 +108,7 @@ module _ {X : Type 0} (f : X → Mark) (xs : List X) (i : ℕ) (space : Bool) wh
         putting_more p (spaced_bytes space (f (get_or xs i d))) (written_on space' (map f (drop (i + 1) xs)))
         (mark_next d lt ∙ ap (λ b. spaced_bytes space (f (get_or xs i d)) ++ written_on b (map f (drop (i + 1) xs))) (sym e))
         l
+
+-- a space, where both neighbours allow it
+pub with_space : (space : Bool) (m : Mark) → space ≡ true → spaced_before m ≡ true → 32 ∷ mark_bytes m ≡ spaced_bytes space m
+with_space space m s b = ap (λ t. cond t (32 ∷ []) [] ++ mark_bytes m) (sym (and_from space (spaced_before m) s b))

@@ -7,7 +7,8 @@ use Rattle.std.proofs.lemmas.Str.Parse.{IsNumeralModel, numerals_by_fold}
 use Rattle.std.proofs.lemmas.Bool.{cond-true, cond_both, and_parts}
 use Rattle.std.proofs.lemmas.Bool.Decides.{nat_tests}
 use Rattle.field.specs.Field.{FieldModel, LawfulField}
-use Rattle.token.specs.Tokens.{RunEnded, each_byte, is_digits, value_after, digits_value, signed_by, number_of}
+use Rattle.std.specs.List.{list_all}
+use Rattle.token.specs.Tokens.{RunEnded, is_digits, value_after, digits_value, signed_by, number_of}
 use Rattle.token.proofs.Runs.{made_of_yes, number_plain}
 use Rattle.sheet.specs.declared.terms.Terms.{Terms}
 use Rattle.expect.specs.Dues.{Fixed.opening, Fixed.closing, Fixed.line_end, Fixed.sheet_end, Fixed.word}
@@ -18,12 +19,12 @@ use Rattle.writer.specs.Laws.{Statable, ReadsBack}
 use Rattle.writer.proofs.Small.{characteristic_small, degree_small, low_small, high_small}
 
 -- rows of digits and their values, in the shelf's words
-digits_own : IsNumeralModel (λ ds. each_byte is_ascii_digit ds ≡ true) (value_after 0)
+digits_own : IsNumeralModel (λ ds. list_all is_ascii_digit ds ≡ true) (value_after 0)
 digits_own = numerals_by_fold _ (search rules) value_after (search rules)
 
 -- ten digits are read back
 module _ (n : ℕ) (h : n < 10 ^ 10) where
-  all_digits : each_byte is_ascii_digit (decimal n) ≡ true
+  all_digits : list_all is_ascii_digit (decimal n) ≡ true
   all_digits = digits_decimal digits_own n (omega arith)
 
   is_numeral : is_digits (decimal n) ≡ true
@@ -32,9 +33,9 @@ module _ (n : ℕ) (h : n < 10 ^ 10) where
   digits_back : digits_value (decimal n) ≡ Some n
   digits_back = cond-true (is_digits (decimal n)) (Some (value_after 0 (decimal n))) None is_numeral ∙ ap Some (digits_value-decimal digits_own n (omega arith))
 
-first_digit : (ds : List ℕ) → each_byte is_ascii_digit ds ≡ true → get_or ds 0 0 ≡ 45 → ⊥
+first_digit : (ds : List ℕ) → list_all is_ascii_digit ds ≡ true → get_or ds 0 0 ≡ 45 → ⊥
 first_digit [] e f = omega arith
-first_digit (b ∷ bs) e f = let d = (and_parts (is_ascii_digit b) (each_byte is_ascii_digit bs) e).0 in grind (arith, nat_tests)
+first_digit (b ∷ bs) e f = let d = (and_parts (is_ascii_digit b) (list_all is_ascii_digit bs) e).0 in grind (arith, nat_tests)
 
 number_back : (z : ℤ) → nat_abs z < 10 ^ 10 → number_of (signed_decimal z) ≡ Some z
 number_back (pos n) h = number_plain (decimal n) (λ _. first_digit (decimal n) (all_digits n h)) ∙ ap (signed_by (λ z. z)) (digits_back n h)

@@ -8,43 +8,43 @@ use Rattle.sheet.specs.declared.terms.Terms.{Terms}
 use Rattle.layout.specs.Marks.{sheet_marks, claim_marks}
 use Rattle.writer.specs.Texts.{written, text}
 use Rattle.writer.specs.Papers.{Lays, writable, write_answer, paper_after}
-use Rattle.writer.proofs.Papers.{Putting, putting_none, putting_room, putting_more, putting_all, lays_whole}
+use Rattle.writer.proofs.Papers.{Putting, putting_none, putting_room, putting_length, putting_more, putting_all, lays_whole}
 use Rattle.writer.proofs.Lengths.{lines_from, text_lines}
 
--- with the characteristic, the degree and the claim as the code has them
-module _ {K : Type 0} (F : FieldModel K) (xs : List K) (t : Terms) (c : ℤ) (p e : ℕ) (z : ℤ) (p-is : p ≡ F.characteristic) (e-is : e ≡ F.degree) (z-is : z ≡ c) (paper : List ℕ) where
+-- with the claim as the code has it
+module _ {K : Type 0} (F : FieldModel K) (xs : List K) (t : Terms) (c : ℤ) (z : ℤ) (z-is : z ≡ c) (paper : List ℕ) (at : ℕ) (fits : at + length (text F t c xs) ≤ length paper) where
   abbrev first : List ℕ
-  first = written (sheet_marks p e t.rows t.columns)
+  first = written (sheet_marks F.characteristic F.degree t.rows t.columns)
 
   abbrev second : List ℕ
-  second = written (claim_marks t.tag.0 t.tag.1 t.tag.2 z)
+  second = written (claim_marks t.tag z)
 
   three_parts : text F t c xs ≡ first ++ (second ++ lines_from F xs 0)
   three_parts =
       text_lines F xs t c
-      ∙ sym (λ i. written (sheet_marks (p-is i) (e-is i) t.rows t.columns) ++ (written (claim_marks t.tag.0 t.tag.1 t.tag.2 (z-is i)) ++ lines_from F xs 0))
+      ∙ sym (λ i. first ++ (written (claim_marks t.tag (z-is i)) ++ lines_from F xs 0))
 
-  start : Putting (text F t c xs) paper 0 paper 0 (text F t c xs)
-  start = putting_none (text F t c xs) paper 0
+  start : Putting (text F t c xs) paper at paper at (text F t c xs)
+  start = putting_none (text F t c xs) paper at
 
-  pub first_room : 0 + length first ≤ 0 + length (text F t c xs)
-  first_room = putting_room start first (second ++ lines_from F xs 0) three_parts
+  pub first_room : at + length first ≤ length paper
+  first_room = let r = putting_room start first (second ++ lines_from F xs 0) three_parts in omega arith
 
-  module _ {paper₁ : List ℕ} {a : ℕ} (x : Lays first paper 0 paper₁ a) where
-    one : Putting (text F t c xs) paper 0 paper₁ a (second ++ lines_from F xs 0)
+  module _ {paper₁ : List ℕ} {a : ℕ} (x : Lays first paper at paper₁ a) where
+    one : Putting (text F t c xs) paper at paper₁ a (second ++ lines_from F xs 0)
     one = putting_more start first (second ++ lines_from F xs 0) three_parts x
 
-    pub second_room : a + length second ≤ 0 + length (text F t c xs)
-    second_room = putting_room one second (lines_from F xs 0) refl
+    pub second_room : a + length second ≤ length paper₁
+    second_room = let r = putting_room one second (lines_from F xs 0) refl in let l = putting_length one (omega arith) in omega arith
 
     module _ {paper₂ : List ℕ} {b : ℕ} (y : Lays second paper₁ a paper₂ b) where
-      two : Putting (text F t c xs) paper 0 paper₂ b (lines_from F xs 0)
+      two : Putting (text F t c xs) paper at paper₂ b (lines_from F xs 0)
       two = putting_more one second (lines_from F xs 0) refl y
 
-      pub lines_room : b + length (lines_from F xs 0) ≤ 0 + length (text F t c xs)
-      lines_room = putting_room two (lines_from F xs 0) [] (sym (append-nil (lines_from F xs 0)))
+      pub lines_room : b + length (lines_from F xs 0) ≤ length paper₂
+      lines_room = let r = putting_room two (lines_from F xs 0) [] (sym (append-nil (lines_from F xs 0))) in let l = putting_length two (omega arith) in omega arith
 
-      pub all_put : {paper₃ : List ℕ} {d : ℕ} → Lays (lines_from F xs 0) paper₂ b paper₃ d → Lays (text F t c xs) paper 0 paper₃ d
+      pub all_put : {paper₃ : List ℕ} {d : ℕ} → Lays (lines_from F xs 0) paper₂ b paper₃ d → Lays (text F t c xs) paper at paper₃ d
       all_put l = putting_all (putting_more two (lines_from F xs 0) [] (sym (append-nil (lines_from F xs 0))) l) refl
 
 -- a claim of the code has at most 19 digits

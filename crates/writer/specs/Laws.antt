@@ -9,9 +9,9 @@ use Rattle.writer.specs.Texts.{text}
 pub record TenDigits (t : Terms) : Type 0 where
   pub rows_fit : t.rows < 10 ^ 10
   pub columns_fit : t.columns < 10 ^ 10
-  pub kind_fits : t.tag.0 < 10 ^ 10
-  pub first_fits : t.tag.1 < 10 ^ 10
-  pub second_fits : t.tag.2 < 10 ^ 10
+  pub kind_fits : t.tag.kind < 10 ^ 10
+  pub first_fits : t.tag.first < 10 ^ 10
+  pub second_fits : t.tag.second < 10 ^ 10
 
 -- what a sheet may state: a claim of at most ten digits between the limits, and degree + 1 values
 pub record Statable {K : Type 0} (t : Terms) (c : ℤ) (xs : List K) : Type 0 where

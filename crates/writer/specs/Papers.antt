@@ -1,5 +1,5 @@
 -- What writing a sheet answers, and what it leaves on the paper. Assumes nothing.
-use Rattle.std.specs.Prelude.{◌≡◌, ℕ, ◌+◌, Bool, cond, ◌&&◌, List, ◌++◌, length, take, drop, ℤ, pos, Ok, Err, Result, nat_le}
+use Rattle.std.specs.Prelude.{◌≡◌, ℕ, ◌+◌, ◌≤◌, Bool, cond, ◌&&◌, List, ◌++◌, length, take, drop, ℤ, pos, Ok, Err, Result, nat_le}
 use Rattle.field.specs.Field.{FieldModel}
 use Rattle.board.specs.declared.refusal.Refusal.{Refusal}
 use Rattle.board.specs.declared.refusal.Refusal.TheVariants.{PaperShort}
@@ -7,6 +7,7 @@ use Rattle.sheet.specs.declared.terms.Terms.{Terms}
 use Rattle.expect.specs.Dues.{Fixed.opening, Fixed.closing, Fixed.line_end, Fixed.word}
 use Rattle.layout.specs.Marks as marks
 use Rattle.writer.specs.declared.mark.Mark.{Mark}
+use Rattle.writer.specs.declared.pen.Pen.{Pen}
 use Rattle.writer.specs.declared.mark.Mark.TheVariants.{Open, Close, LineEnd, Word, Natural, Signed}
 use Rattle.writer.specs.Texts.{text}
 
@@ -24,6 +25,14 @@ pub record Lays (bs before : List ℕ) (at : ℕ) (after : List ℕ) (end : ℕ)
   pub end_is : end ≡ at + length bs
   pub front : take end after ≡ take at before ++ bs
   pub back : drop end after ≡ drop end before
+
+-- there is room for the bytes bs where the pen is
+abbrev pub Room : List ℕ → Pen → Type 0
+Room bs pen = pen.at + length bs ≤ length pen.paper.now
+
+-- the bytes bs are put where the pen was, on the same paper
+abbrev pub Puts : List ℕ → Pen → Pen → Type 0
+Puts bs before after = Lays bs before.paper.now before.at after.paper.now after.at × (after.paper.ghost_name ≡ before.paper.ghost_name)
 
 -- a sheet is written where it has at most 253 values and the paper has at least 9,216 bytes
 abbrev pub writable : ℕ → ℕ → Bool

@@ -4,15 +4,11 @@ ghost use Rattle.writer.specs.Laws.{ReadsBack, TextFits};
 use field::Field;
 
 // What is written is read back.
-pub fn reads_back<F: Field>() -> u8
+pub fn reads_back<F: Field>()
     ensures { ReadsBack F.Field.model }
-{
-    0
-}
+{}
 
 // 9,216 bytes suffice for 253 values.
-pub fn text_fits<F: Field>() -> u8
+pub fn text_fits<F: Field>()
     ensures { TextFits F.Field.model }
-{
-    0
-}
+{}

@@ -4,6 +4,7 @@
 mod laws;
 mod lines;
 mod mark;
+mod pen;
 mod put;
 mod writer;
 

@@ -1,69 +1,61 @@
-// The lines of a sheet, put at a place of the paper, on which there is room for them; each returns the place behind its line.
-ghost use Rattle.std.specs.Prelude.{◌+◌, ◌≤◌, length};
+// The lines of a sheet, put by a pen.
 ghost use Rattle.layout.specs.Marks.{sheet_marks, claim_marks, value_marks, end_marks};
 ghost use Rattle.writer.specs.Texts.{written};
-ghost use Rattle.writer.specs.Papers.{Lays};
+ghost use Rattle.writer.specs.Papers.{Room, Puts};
 
 use crate::mark::Mark;
-use crate::put::put_marks;
+use crate::pen::Pen;
+use board::Tag;
 use expect::Keyword;
+use field::Field;
+use sheet::Terms;
 
-// The first line: the characteristic, the degree, the rows and the columns.
-pub(crate) fn put_sheet_line(paper: &mut [u8], at: usize, p: u32, e: u32, h: u32, v: u32) -> usize
-    requires { at + length (written (sheet_marks p e h v)) ≤ length paper.old }
-    ensures { Lays (written (sheet_marks p e h v)) paper.old at paper.new result }
-{
-    put_marks(
-        paper,
-        at,
-        &[
+impl Pen<'_> {
+    // The first line: the characteristic, the degree, the rows and the columns.
+    pub(crate) fn sheet_line<F: Field>(&mut self, terms: &Terms)
+        requires { Room (written (sheet_marks F.Field.model.characteristic F.Field.model.degree terms.now.rows terms.now.columns)) self.old }
+        ensures { Puts (written (sheet_marks F.Field.model.characteristic F.Field.model.degree terms.now.rows terms.now.columns)) self.old self.new }
+    {
+        self.marks(&[
             Mark::Open,
             Mark::Word(Keyword::Sheet),
-            Mark::Natural(p as u64),
-            Mark::Natural(e as u64),
+            Mark::Natural(F::characteristic() as u64),
+            Mark::Natural(F::degree() as u64),
             Mark::Open,
             Mark::Word(Keyword::Grid),
-            Mark::Natural(h as u64),
-            Mark::Natural(v as u64),
+            Mark::Natural(terms.rows as u64),
+            Mark::Natural(terms.columns as u64),
             Mark::Close,
             Mark::Close,
             Mark::LineEnd,
-        ],
-    )
-}
+        ])
+    }
 
-// The claim's line: the tag and the claim.
-pub(crate) fn put_claim_line(paper: &mut [u8], at: usize, tag: (u32, u32, u32), claim: i64) -> usize
-    requires { at + length (written (claim_marks tag.0 tag.1 tag.2 claim)) ≤ length paper.old }
-    ensures { Lays (written (claim_marks tag.0 tag.1 tag.2 claim)) paper.old at paper.new result }
-{
-    put_marks(
-        paper,
-        at,
-        &[
+    // The claim's line: the tag and the claim.
+    pub(crate) fn claim_line(&mut self, tag: Tag, claim: i64)
+        requires { Room (written (claim_marks tag claim)) self.old }
+        ensures { Puts (written (claim_marks tag claim)) self.old self.new }
+    {
+        self.marks(&[
             Mark::Open,
             Mark::Word(Keyword::Claim),
             Mark::Open,
-            Mark::Natural(tag.0 as u64),
-            Mark::Natural(tag.1 as u64),
-            Mark::Natural(tag.2 as u64),
+            Mark::Natural(tag.kind as u64),
+            Mark::Natural(tag.first as u64),
+            Mark::Natural(tag.second as u64),
             Mark::Close,
             Mark::Signed(claim),
             Mark::Close,
             Mark::LineEnd,
-        ],
-    )
-}
+        ])
+    }
 
-// Value line j: the parts of a value.
-pub(crate) fn put_value_line(paper: &mut [u8], at: usize, j: usize, low: u32, high: u32) -> usize
-    requires { at + length (written (value_marks j (low, high))) ≤ length paper.old }
-    ensures { Lays (written (value_marks j (low, high))) paper.old at paper.new result }
-{
-    put_marks(
-        paper,
-        at,
-        &[
+    // Value line j: the parts of a value.
+    pub(crate) fn value_line(&mut self, j: usize, low: u32, high: u32)
+        requires { Room (written (value_marks j (low, high))) self.old }
+        ensures { Puts (written (value_marks j (low, high))) self.old self.new }
+    {
+        self.marks(&[
             Mark::Open,
             Mark::Word(Keyword::At),
             Mark::Natural(j as u64),
@@ -73,23 +65,19 @@ pub(crate) fn put_value_line(paper: &mut [u8], at: usize, j: usize, low: u32, hi
             Mark::Close,
             Mark::Close,
             Mark::LineEnd,
-        ],
-    )
-}
+        ])
+    }
 
-// The last line.
-pub(crate) fn put_last_line(paper: &mut [u8], at: usize) -> usize
-    requires { at + length (written end_marks) ≤ length paper.old }
-    ensures { Lays (written end_marks) paper.old at paper.new result }
-{
-    put_marks(
-        paper,
-        at,
-        &[
+    // The last line.
+    pub(crate) fn last_line(&mut self)
+        requires { Room (written end_marks) self.old }
+        ensures { Puts (written end_marks) self.old self.new }
+    {
+        self.marks(&[
             Mark::Open,
             Mark::Word(Keyword::End),
             Mark::Close,
             Mark::LineEnd,
-        ],
-    )
+        ])
+    }
 }

@@ -1,10 +1,10 @@
 // Writing a sheet onto paper of the caller's.
-ghost use Rattle.std.specs.Prelude.{◌≡◌, ◌+◌, ◌≤◌, length};
+ghost use Rattle.std.specs.Prelude.{◌≡◌, ◌≤◌, length};
 ghost use Rattle.layout.specs.Marks.{line_marks, parts_of};
 ghost use Rattle.writer.specs.Texts.{written, text};
-ghost use Rattle.writer.specs.Papers.{Lays, write_answer, paper_after};
+ghost use Rattle.writer.specs.Papers.{Lays, Room, Puts, write_answer, paper_after};
 
-use crate::lines::{put_claim_line, put_last_line, put_sheet_line, put_value_line};
+use crate::pen::Pen;
 use board::Refusal;
 use field::Field;
 use sheet::Terms;
@@ -15,17 +15,27 @@ const MOST_VALUES: usize = 253;
 // No sheet of so many values has more bytes.
 const ENOUGH_PAPER: usize = 9216;
 
-// Puts the value lines and the last line at a place of the paper, on which there is room for them, and returns the place behind them.
-fn put_values<F: Field>(paper: &mut [u8], at: usize, values: &[F]) -> usize
-    requires { at + length (written (line_marks 0 (parts_of F.Field.model values.now))) ≤ length paper.old }
-    ensures { Lays (written (line_marks 0 (parts_of F.Field.model values.now))) paper.old at paper.new result }
-{
-    let mut end = at;
-    for j in 0..values.len() {
-        let value = values[j];
-        end = put_value_line(paper, end, j, value.low(), value.high());
+impl Pen<'_> {
+    // The value lines and the last line.
+    fn values<F: Field>(&mut self, values: &[F])
+        requires { Room (written (line_marks 0 (parts_of F.Field.model values.now))) self.old }
+        ensures { Puts (written (line_marks 0 (parts_of F.Field.model values.now))) self.old self.new }
+    {
+        for (j, value) in values.iter().enumerate() {
+            self.value_line(j, value.low(), value.high());
+        }
+        self.last_line();
     }
-    put_last_line(paper, end)
+
+    // The sheet of a claim and values.
+    fn sheet<F: Field>(&mut self, terms: &Terms, claim: i64, values: &[F])
+        requires { Room (text F.Field.model terms.now claim values.now) self.old }
+        ensures { Puts (text F.Field.model terms.now claim values.now) self.old self.new }
+    {
+        self.sheet_line::<F>(terms);
+        self.claim_line(terms.tag, claim);
+        self.values(values);
+    }
 }
 
 // Puts the sheet of a claim and values at the start of the paper, on which there is room for it, and returns its length.
@@ -33,11 +43,9 @@ fn put_sheet<F: Field>(paper: &mut [u8], terms: &Terms, claim: i64, values: &[F]
     requires { length (text F.Field.model terms.now claim values.now) ≤ length paper.old }
     ensures { Lays (text F.Field.model terms.now claim values.now) paper.old 0 paper.new result }
 {
-    let p = F::characteristic();
-    let e = F::degree();
-    let second = put_sheet_line(paper, 0, p, e, terms.rows, terms.columns);
-    let third = put_claim_line(paper, second, terms.tag, claim);
-    put_values(paper, third, values)
+    let mut pen = Pen::new(paper);
+    pen.sheet(terms, claim, values);
+    pen.at
 }
 
 // Writes a sheet where it has no more values than a sheet may have and the paper is enough for every such sheet.

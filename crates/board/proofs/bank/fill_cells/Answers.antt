@@ -1,7 +1,9 @@
-use Rattle.std.proofs.Common.{set, ap, ◌∙◌, arith}
-use Rattle.board.proofs.Fills.{filled_more}
+use Rattle.std.proofs.Common.{◌≡◌, ◌++◌, length, drop, replicate, ap, ◌∙◌, rules, length-take-le}
+use Rattle.board.proofs.Fills.{all_alike}
 use Rattle.board.proofs.bank.fill_cells.Goals as goal
 
-pub loop-i-preserved : goal.loop-i-preserved
-loop-i-preserved g c =
-    ap (λ xs. set xs c.loop-i.i c.args.x) c.loop-i.invariant ∙ filled_more c.loop-i.i c.args.x c.args.cells.now (omega arith)
+pub returns : goal.returns
+returns g c =
+    let n : length c.fill_with.new.self ≡ c.args.n = c.fill_with.ensures.len ∙ length-take-le c.args.n c.args.cells.now c.requires in
+    ap (λ xs. xs ++ drop c.args.n c.args.cells.now)
+    (all_alike _ c.args.x _ _ _ (λ y q r. search rules) c.fill_with.ensures.ran.1 ∙ ap (λ m. replicate m c.args.x) n)

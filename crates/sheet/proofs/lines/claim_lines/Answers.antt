@@ -4,39 +4,42 @@ use Rattle.std.proofs.lemmas.Int.{to_z-of_z}
 use Rattle.token.specs.Readers.{cursor_of}
 use Rattle.sheet.specs.Readings.{front}
 use Rattle.expect.proofs.Passes.{stop_first}
-use Rattle.sheet.proofs.Passes.{stop_claim, at_form_end}
+use Rattle.sheet.proofs.Passes.{stop_claim, at_form_end, claim_as}
 use Rattle.sheet.proofs.lines.claim_lines.Goals as goal
 
 pub returns-in_err-pass : goal.returns-in_err-pass
-returns-in_err-pass c =
+returns-in_err-pass g c =
     let p = err_from_is_err_and c.from_residual.result c.from_residual.ensures.1 in
-    rw (p.1, p.2) (λ kept. stop_first (front c.args.p c.args.e c.args.terms.now) _ kept _ _ (c.in_err-pass.ensures kept))
+    rw (p.1, p.2) (λ kept. stop_first (front c.characteristic.result c.degree.result c.args.terms.now) _ kept _ _ (c.in_err-pass.ensures kept) ∙ claim_as c.characteristic.ensures c.degree.ensures c.args.terms.now kept (cursor_of c.args.reader.now))
 
 pub returns-in_err-claim : goal.returns-in_err-claim
-returns-in_err-claim c =
+returns-in_err-claim g c =
     let p = err_from_is_err_and c.from_residual-in_err-claim.result c.from_residual-in_err-claim.ensures.1 in
     let t = c.args.terms.now in
     let lo = to_z w64 (of_z w64 t.least) in
     let hi = to_z w64 (of_z w64 t.greatest) in
     rw (p.1, p.2)
-    (λ kept. stop_claim c.args.p c.args.e t lo hi kept _ _ (c.in_ok-pass.ensures kept) _ (c.in_err-claim.ensures.read kept) (to_z-of_z w64 t.least (search rules)) (to_z-of_z w64 t.greatest (search rules)))
+    (λ kept. stop_claim c.characteristic.result c.degree.result t lo hi kept _ _ (c.in_ok-pass.ensures kept) _ (c.in_err-claim.ensures.read kept) (to_z-of_z w64 t.least (search rules)) (to_z-of_z w64 t.greatest (search rules))
+    ∙ claim_as c.characteristic.ensures c.degree.ensures c.args.terms.now kept (cursor_of c.args.reader.now))
 
 pub returns-in_err-pass-2 : goal.returns-in_err-pass-2
-returns-in_err-pass-2 c =
+returns-in_err-pass-2 g c =
     let p = err_from_is_err_and c.from_residual-in_err-pass-2.result c.from_residual-in_err-pass-2.ensures.1 in
     let f : SFits w64 c.args.terms.now.least = search rules in
-    let g : SFits w64 c.args.terms.now.greatest = search rules in
+    let k : SFits w64 c.args.terms.now.greatest = search rules in
     rw (p.1, p.2)
     (λ kept.
     c.in_err-pass-2.ensures (kept ++ c.in_ok-claim.claim ∷ [])
-    ∙ at_form_end c.args.p c.args.e c.args.terms.now _ _ kept _ _ (c.in_ok-pass.ensures kept) _ _ (c.in_ok-claim.ensures.read kept) (to_z-of_z w64 _ f) (to_z-of_z w64 _ g))
+    ∙ at_form_end c.characteristic.result c.degree.result c.args.terms.now _ _ kept _ _ (c.in_ok-pass.ensures kept) _ _ (c.in_ok-claim.ensures.read kept) (to_z-of_z w64 _ f) (to_z-of_z w64 _ k)
+    ∙ claim_as c.characteristic.ensures c.degree.ensures c.args.terms.now kept (cursor_of c.args.reader.now))
 
 pub returns : goal.returns
-returns c =
+returns g c =
     let f : SFits w64 c.args.terms.now.least = search rules in
-    let g : SFits w64 c.args.terms.now.greatest = search rules in
+    let k : SFits w64 c.args.terms.now.greatest = search rules in
     let h : SFits w64 c.in_ok-claim.claim = search rules in
     λ kept.
     ap (λ z. Ok (kept ++ z ∷ [], cursor_of c.pass-2.new.reader)) (to_z-of_z w64 c.in_ok-claim.claim h)
     ∙ c.in_ok-pass-2.ensures (kept ++ c.in_ok-claim.claim ∷ [])
-    ∙ at_form_end c.args.p c.args.e c.args.terms.now _ _ kept _ _ (c.in_ok-pass.ensures kept) _ _ (c.in_ok-claim.ensures.read kept) (to_z-of_z w64 _ f) (to_z-of_z w64 _ g)
+    ∙ at_form_end c.characteristic.result c.degree.result c.args.terms.now _ _ kept _ _ (c.in_ok-pass.ensures kept) _ _ (c.in_ok-claim.ensures.read kept) (to_z-of_z w64 _ f) (to_z-of_z w64 _ k)
+    ∙ claim_as c.characteristic.ensures c.degree.ensures c.args.terms.now kept (cursor_of c.args.reader.now)

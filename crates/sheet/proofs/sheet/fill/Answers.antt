@@ -1,10 +1,10 @@
-use Rattle.std.proofs.Common.{suc, [], ◌∷◌, Ok, sym, refl, ap, ◌∙◌, arith, w64, SFits, to_z, of_z, rules}
+use Rattle.std.proofs.Common.{subst, ◌+◌, length-take-le, length-set, set, get_or, add-one, suc, [], ◌∷◌, Ok, sym, refl, ap, ◌∙◌, arith, w64, SFits, to_z, of_z, rules}
 use Rattle.std.proofs.lemmas.Result.{err_from_is_err_and}
 use Rattle.std.proofs.lemmas.Int.{to_z-of_z}
 use Rattle.token.specs.Readers.{cursor_of}
 use Rattle.expect.specs.Dues.{pass}
-use Rattle.sheet.specs.Readings.{claim_due, value_line, claim_of}
-use Rattle.sheet.proofs.Fills.{flat, none_read, one_read, line_stops, ending_stops, all_read, tray_is, claim_stops, fills}
+use Rattle.sheet.specs.Readings.{claim_due, claim_of, Filled}
+use Rattle.sheet.proofs.Fills.{flat, none_read, one_read, line_stops, ending_stops, all_read, all_values, claim_stops, fault_left, values_left}
 use Rattle.sheet.proofs.sheet.fill.Goals as goal
 
 pub returns-in_err-claim : goal.returns-in_err-claim
@@ -12,50 +12,59 @@ returns-in_err-claim g c =
     let F = g.F.Field.model in
     let p = err_from_is_err_and c.from_residual.result c.from_residual.ensures.1 in
     let e = claim_stops F c.args.terms.now c.args.sheet.now _
-    (c.in_err-claim.ensures [] ∙ (λ i. pass (claim_due (c.characteristic-p.ensures i) (c.degree-e.ensures i) c.args.terms.now) [] (c.new-reader.ensures i))) in
-    rw (p.1, p.2) (record { answer = ap (claim_of F) (sym e); tray = fills F c.args.terms.now c.args.sheet.now (suc c.args.terms.now.degree) c.args.tray.now c.args.tray.now _ e refl })
+    (c.in_err-claim.ensures [] ∙ ap (pass (claim_due F.characteristic F.degree c.args.terms.now) []) c.new-reader.ensures) in
+    rw (p.1, p.2) (record { answer = ap (claim_of F) (sym e); tray = subst (λ o. Filled F (suc c.args.terms.now.degree) o c.args.tray.now c.args.tray.now) (sym e) refl })
 
 pub loop-j-init : goal.loop-j-init
 loop-j-init g c =
     let f : SFits w64 c.in_ok-claim.claim = search rules in
-    none_read g.F.Field.model c.args.terms.now c.args.sheet.now (suc c.args.terms.now.degree) (to_z w64 (of_z w64 c.in_ok-claim.claim)) c.args.tray.now refl (cursor_of c.claim_lines.new.reader)
+    none_read g.F.Field.model c.args.terms.now c.args.sheet.now (suc c.args.terms.now.degree) (to_z w64 (of_z w64 c.in_ok-claim.claim)) refl (cursor_of c.claim_lines.new.reader)
     (ap (λ z. Ok (z ∷ [], cursor_of c.claim_lines.new.reader)) (to_z-of_z w64 c.in_ok-claim.claim f)
     ∙ c.in_ok-claim.ensures []
-    ∙ (λ i. pass (claim_due (c.characteristic-p.ensures i) (c.degree-e.ensures i) c.args.terms.now) [] (c.new-reader.ensures i)))
+    ∙ ap (pass (claim_due g.F.Field.model.characteristic g.F.Field.model.degree c.args.terms.now) []) c.new-reader.ensures)
+    _
 
 pub returns-in_err-low : goal.returns-in_err-low
 returns-in_err-low g c =
     let F = g.F.Field.model in
     let p = err_from_is_err_and c.from_residual-in_err-low.result c.from_residual-in_err-low.ensures.1 in
+    let long = length-take-le (c.args.terms.now.degree + 1) c.args.tray.now (omega arith) in
     let f = c.loop-j.invariant in
     let kept = to_z w64 (of_z w64 c.in_ok-claim.claim) ∷ flat f.parts in
-    let e = line_stops F c.args.terms.now c.args.sheet.now (suc c.args.terms.now.degree) _ c.args.tray.now c.loop-j.j (omega arith) (cursor_of c.loop-j.reader) c.loop-j.tray f _
-    (c.in_err-low.ensures.read kept ∙ (λ i. pass (value_line (c.characteristic-p.ensures i) (c.degree-e.ensures i) c.loop-j.j) kept (cursor_of c.loop-j.reader))) in
-    rw (p.1, p.2) (record { answer = ap (claim_of F) (sym e); tray = fills F c.args.terms.now c.args.sheet.now (suc c.args.terms.now.degree) c.args.tray.now c.loop-j.tray _ e f.others })
+    let e = line_stops F c.args.terms.now c.args.sheet.now (suc c.args.terms.now.degree) _ c.loop-j.j (omega arith) (cursor_of c.loop-j.reader) c.loop-j.values f _
+    (c.in_err-low.ensures.read kept) in
+    rw (p.1, p.2) (record {
+      answer = ap (claim_of F) (sym e);
+      tray = fault_left F c.args.terms.now c.args.sheet.now (c.args.terms.now.degree + 1) (suc c.args.terms.now.degree) (add-one c.args.terms.now.degree) c.args.tray.now
+          (set c.loop-j.values c.loop-j.j (get_or c.loop-j.values c.loop-j.j c.index-values-j.result)) (length-set c.loop-j.values c.loop-j.j _ ∙ (omega arith)) _ e;
+    })
 
 pub loop-j-preserved : goal.loop-j-preserved
 loop-j-preserved g c =
+    let long = length-take-le (c.args.terms.now.degree + 1) c.args.tray.now (omega arith) in
     let f = c.loop-j.invariant in
     let kept = to_z w64 (of_z w64 c.in_ok-claim.claim) ∷ flat f.parts in
-    one_read g.F.Field.model c.args.terms.now c.args.sheet.now (suc c.args.terms.now.degree) _ c.args.tray.now c.loop-j.j (omega arith) (cursor_of c.loop-j.reader) c.loop-j.tray f
+    one_read g.F.Field.model c.args.terms.now c.args.sheet.now (suc c.args.terms.now.degree) _ c.loop-j.j (omega arith) (cursor_of c.loop-j.reader) c.loop-j.values f
     c.in_ok-low.low c.in_ok-low.high c.of_parts.result (cursor_of c.value_line.new.reader) (omega arith) c.of_parts.ensures
-    (c.in_ok-low.ensures.read kept ∙ (λ i. pass (value_line (c.characteristic-p.ensures i) (c.degree-e.ensures i) c.loop-j.j) kept (cursor_of c.loop-j.reader)))
+    (c.in_ok-low.ensures.read kept)
 
 pub returns-in_err-last_line : goal.returns-in_err-last_line
 returns-in_err-last_line g c =
     let F = g.F.Field.model in
     let p = err_from_is_err_and c.from_residual-in_err-last_line.result c.from_residual-in_err-last_line.ensures.1 in
+    let long = length-take-le (c.args.terms.now.degree + 1) c.args.tray.now (omega arith) in
     let f = c.loop-j.invariant in
-    let e = ending_stops F c.args.terms.now c.args.sheet.now (suc c.args.terms.now.degree) _ c.args.tray.now c.loop-j.j (omega arith) (cursor_of c.loop-j.reader) c.loop-j.tray f _ (c.in_err-last_line.ensures _) in
-    rw (p.1, p.2) (record { answer = ap (claim_of F) (sym e); tray = fills F c.args.terms.now c.args.sheet.now (suc c.args.terms.now.degree) c.args.tray.now c.loop-j.tray _ e f.others })
+    let e = ending_stops F c.args.terms.now c.args.sheet.now (suc c.args.terms.now.degree) _ c.loop-j.j (omega arith) (cursor_of c.loop-j.reader) c.loop-j.values f _ (c.in_err-last_line.ensures _) in
+    rw (p.1, p.2) (record { answer = ap (claim_of F) (sym e); tray = fault_left F c.args.terms.now c.args.sheet.now (c.args.terms.now.degree + 1) (suc c.args.terms.now.degree) (add-one c.args.terms.now.degree) c.args.tray.now c.loop-j.values (omega arith) _ e })
 
 pub returns : goal.returns
 returns g c =
     let F = g.F.Field.model in
+    let long = length-take-le (c.args.terms.now.degree + 1) c.args.tray.now (omega arith) in
     let f = c.loop-j.invariant in
-    let e = all_read F c.args.terms.now c.args.sheet.now (suc c.args.terms.now.degree) _ c.args.tray.now c.loop-j.j (omega arith) (cursor_of c.loop-j.reader) c.loop-j.tray f (cursor_of c.last_line.new.reader) (c.in_ok-last_line.ensures _) in
+    let e = all_read F c.args.terms.now c.args.sheet.now (suc c.args.terms.now.degree) _ c.loop-j.j (omega arith) (cursor_of c.loop-j.reader) c.loop-j.values f (cursor_of c.last_line.new.reader) (c.in_ok-last_line.ensures _) in
     record {
       answer = ap (claim_of F) (sym e);
-      tray = fills F c.args.terms.now c.args.sheet.now (suc c.args.terms.now.degree) c.args.tray.now c.loop-j.tray _ e
-          (tray_is F c.args.terms.now c.args.sheet.now (suc c.args.terms.now.degree) _ c.args.tray.now c.loop-j.j (omega arith) (cursor_of c.loop-j.reader) c.loop-j.tray f);
+      tray = values_left F c.args.terms.now c.args.sheet.now (c.args.terms.now.degree + 1) (suc c.args.terms.now.degree) (add-one c.args.terms.now.degree) c.args.tray.now c.loop-j.values (omega arith) _ _ e
+          (all_values F c.args.terms.now c.args.sheet.now (suc c.args.terms.now.degree) _ c.loop-j.j (omega arith) (cursor_of c.loop-j.reader) c.loop-j.values f (omega arith));
     }

@@ -4,4 +4,4 @@ use Rattle.sheet.proofs.Fills.{Reached}
 use Rattle.sheet.proofs.sheet.fill.Given as goal
 
 abbrev pub invariant-loop-j : goal.invariant-loop-j
-invariant-loop-j g l = Reached g.F.Field.model l.terms l.sheet (suc l.terms.degree) l.j l.claim (cursor_of l.reader) l.initial.tray l.tray
+invariant-loop-j g l = Reached g.F.Field.model l.terms l.sheet (suc l.terms.degree) l.j l.claim (cursor_of l.reader) l.values

@@ -1,30 +1,32 @@
-use Rattle.std.proofs.Common.{suc, Ok, sym, ap, ◌∙◌, subst, arith, w64, SFits, rules}
-use Rattle.std.proofs.lemmas.Int.{to_z-of_z}
-use Rattle.sheet.specs.Readings.{reading, Filled}
-use Rattle.sheet.proofs.Fills.{told, given, answer_is, tray_after_lem, cleared}
+use Rattle.std.proofs.Common.{suc, sym, ap, ◌∙◌, add-one}
+use Rattle.std.specs.Result.{is_err}
+use Rattle.board.specs.Banks.{filled}
+use Rattle.sheet.specs.Readings.{reading}
+use Rattle.sheet.proofs.Fills.{values_kept, zeros_put, answer_is, tray_after_lem}
 use Rattle.sheet.proofs.sheet.read_sheet.Goals as goal
 
-pub returns-in-Ok : goal.returns-in-Ok
-returns-in-Ok g c =
+pub returns-then-is_err : goal.returns-then-is_err
+returns-then-is_err g c =
     let F = g.F.Field.model in
     let t = c.args.terms.now in
     let bs = c.args.sheet.now in
-    let f : SFits w64 c.in-Ok.claim = search rules in
-    let h = c.in-Ok.ensures in
-    record {
-      answer = ap Ok (to_z-of_z w64 c.in-Ok.claim f) ∙ h.answer ∙ sym (answer_is F t bs c.args.tray.now c.if-tray-degree.false);
-      tray = given F t bs (suc t.degree) c.args.tray.now c.fill.new.tray (reading F t bs) c.in-Ok.claim h.answer h.tray ∙ sym (tray_after_lem F t bs c.args.tray.now c.if-tray-degree.false);
-    }
-
-pub returns-in-Err : goal.returns-in-Err
-returns-in-Err g c =
-    let F = g.F.Field.model in
-    let t = c.args.terms.now in
-    let bs = c.args.sheet.now in
-    let h = c.in-Err.ensures in
-    let e = told F t bs (reading F t bs) c.in-Err.refusal h.answer in
+    let h = c.fill-answer.ensures in
     record {
       answer = h.answer ∙ sym (answer_is F t bs c.args.tray.now c.if-tray-degree.false);
-      tray = cleared F t bs c.args.tray.now c.if-tray-degree.false _ _ c.fill.new.tray c.clear.new.tray e
-          (subst (λ o. Filled F (suc t.degree) o c.args.tray.now c.fill.new.tray) e h.tray) (omega arith) c.clear.ensures;
+      tray = c.fill_cells.ensures
+          ∙ (λ i. filled (add-one t.degree i) (c.zero.ensures i) c.fill-answer.new.tray)
+          ∙ zeros_put F t bs (suc t.degree) c.args.tray.now c.fill-answer.new.tray (reading F t bs) (sym (ap is_err h.answer) ∙ sym c.is_err.ensures.value ∙ c.if-is_err.true) h.tray
+          ∙ sym (tray_after_lem F t bs c.args.tray.now c.if-tray-degree.false);
+    }
+
+pub returns-else-is_err : goal.returns-else-is_err
+returns-else-is_err g c =
+    let F = g.F.Field.model in
+    let t = c.args.terms.now in
+    let bs = c.args.sheet.now in
+    let h = c.fill-answer.ensures in
+    record {
+      answer = h.answer ∙ sym (answer_is F t bs c.args.tray.now c.if-tray-degree.false);
+      tray = values_kept F t bs (suc t.degree) c.args.tray.now c.fill-answer.new.tray (reading F t bs) (sym (ap is_err h.answer) ∙ sym c.is_err.ensures.value ∙ c.if-is_err.false) h.tray
+          ∙ sym (tray_after_lem F t bs c.args.tray.now c.if-tray-degree.false);
     }

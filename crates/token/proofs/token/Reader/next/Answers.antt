@@ -1,18 +1,18 @@
-use Rattle.std.proofs.Common.{refl, arith}
-use Rattle.token.proofs.Runs.{spaces_le}
+use Rattle.std.proofs.Common.{refl, ◌∙◌, arith}
+use Rattle.token.proofs.Runs.{spaces_le, spaces_taken}
 use Rattle.token.proofs.Steps.{from_on, spaces_fit, token_fits, line_fits, after_is, token_is, place_is}
 use Rattle.token.proofs.token.Reader.next.Goals as goal
 
 pub slice_bounds-bytes-count : goal.slice_bounds-bytes-count
 slice_bounds-bytes-count c =
     let h = spaces_le (from_on c.args.self.now.sheet.now c.args.self.now.cursor) in
-    let e = c.leading_spaces-skipped.ensures in
+    let e = c.leading_spaces-skipped.ensures ∙ spaces_taken (from_on c.args.self.now.sheet.now c.args.self.now.cursor) in
     omega arith
 
 pub slice_bounds-bytes-start : goal.slice_bounds-bytes-start
 slice_bounds-bytes-start c =
     let h = spaces_le (from_on c.args.self.now.sheet.now c.args.self.now.cursor) in
-    let e = c.leading_spaces-skipped.ensures in
+    let e = c.leading_spaces-skipped.ensures ∙ spaces_taken (from_on c.args.self.now.sheet.now c.args.self.now.cursor) in
     omega arith
 
 pub overflow_add-place : goal.overflow_add-place
