@@ -41,5 +41,5 @@ loop-x-preserved g c =
     let e = row_end h v x (length fs) (omega arith) c.requires.long in
     let before = c.loop-x.invariant.2 ∙ ap (columns_from F h v fs X) s in
     let more = columns_more F h v fs X x (take n (drop (x * v) fs)) (omega arith) (row_length v (x * v) n fs w e) (λ y b. row_at fs (x * v) n y (omega arith)) in
-    let now-is = c.add_row.ensures ∙ ap₂ (λ b cs. added_row F b cs (take n (drop (x * v) fs))) c.basis_at-weight.ensures before ∙ more in
+    let now-is = c.add_row.ensures ∙ ap₂ (λ b cs. added_row F b cs (take n (drop (x * v) fs))) c.basis_at.ensures before ∙ more in
     (omega arith, ap length now-is ∙ length-listed 0 v _, now-is)
