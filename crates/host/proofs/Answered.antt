@@ -14,7 +14,12 @@ use Rattle.protocol.specs.Asking.{suits, terms_of, honest}
 use Rattle.writer.specs.Papers.{write_answer, paper_after}
 use Rattle.writer.specs.Texts.{text}
 use Rattle.host.specs.Rows.{Ranged}
-use Rattle.host.specs.Answering.{answer_ready, tray_filled, answered_by, answered}
+use Rattle.host.specs.Answering.{Answered, answer_ready, tray_filled, answered_by, answered}
+
+-- an answer, a tray and a paper that are alike come to the same
+pub given : {K : Type 0} {a b : Result (ℤ × ℕ) Refusal} {s t : List K} {o p : List ℕ} → a ≡ b → s ≡ t → o ≡ p
+    → ◌≡◌ {A = Answered K} record { answer = a; tray = s; paper = o } record { answer = b; tray = t; paper = p }
+given e f g = λ i. record { answer = e i; tray = f i; paper = g i }
 
 module _ {K : Type 0} (F : FieldModel K) (h v : ℕ) (bank : List ℤ) (q : QuestionModel K) (tray : List K) (paper : List ℕ) where
   -- the counts

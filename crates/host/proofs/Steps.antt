@@ -1,8 +1,5 @@
 -- Steps of the host's loops. Assumes nothing but the laws of the field.
-use Rattle.std.proofs.Common.{◌≡◌, ℕ, zero, suc, ◌+◌, ◌-◌, ◌*◌, ◌<◌, ◌≤◌, List, [], ◌∷◌, ◌++◌, length, get_or, take, drop, set, replicate, ℤ, pos, negsuc, nat_abs, sym, refl, ap, ◌∙◌, ap₂, mul-le-mul_right, arith, length-drop, length-set, take-append-drop, length-take, get_or-drop, get_or-take, drop-drop, drop-set-lt, w32, SFits}
-use lib.Seq.{take-set-lt}
-use borrow.Rule.Slice.PartMut.{put_mid, mid_of, mid_len, same_len_mid}
-use Rattle.std.proofs.lemmas.Slice.{take-put_mid_below, drop-put_mid, between-put_mid}
+use Rattle.std.proofs.Common.{◌≡◌, ℕ, zero, suc, ◌+◌, ◌-◌, ◌*◌, ◌<◌, ◌≤◌, List, [], ◌∷◌, ◌++◌, length, get_or, take, drop, set, replicate, ℤ, pos, negsuc, nat_abs, sym, refl, ap, ◌∙◌, ap₂, mul-le-mul_right, arith, length-drop, length-take, get_or-drop, get_or-take, w32, SFits}
 use Rattle.field.specs.Field.{FieldModel}
 use Rattle.polynomial.specs.Interpolation.{chi}
 use Rattle.polynomial.specs.Lists.{listed}

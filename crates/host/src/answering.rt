@@ -18,9 +18,7 @@ pub(crate) fn answer_counts<F: Field, Q: Question<F>>(
     tray: &mut [F],
     paper: &mut [u8],
 ) -> Result<(i64, usize), Refusal>
-    ensures answer { result ≡ (answered F.Field.model grid.rows grid.columns cells.now (Q.Question.meaning question.now) tray.old paper.old).answer }
-    ensures tray { tray.new ≡ (answered F.Field.model grid.rows grid.columns cells.now (Q.Question.meaning question.now) tray.old paper.old).tray }
-    ensures paper { paper.new ≡ (answered F.Field.model grid.rows grid.columns cells.now (Q.Question.meaning question.now) tray.old paper.old).paper }
+    ensures { record { answer = result; tray = tray.new; paper = paper.new } ≡ answered F.Field.model grid.rows grid.columns cells.now (Q.Question.meaning question.now) tray.old paper.old }
 {
     let counts = cells
         .get(..grid.cells() as usize)

@@ -1,4 +1,4 @@
-use Rattle.std.proofs.Common.{◌≡◌, suc, ◌+◌, ◌-◌, ◌<◌, ◌++◌, length, set, drop, sym, ap, ◌∙◌, ap₂, arith, drop-drop, rules}
+use Rattle.std.proofs.Common.{◌≡◌, suc, ◌+◌, ◌-◌, ◌++◌, length, set, drop, ap, ◌∙◌, ap₂, arith, drop-drop}
 use Rattle.polynomial.specs.Interpolation.{node}
 use Rattle.polynomial.specs.Lists.{listed}
 use Rattle.polynomial.specs.Columns.{columns}
