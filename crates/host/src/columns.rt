@@ -30,6 +30,10 @@ pub(crate) fn fill_columns<F: Field>(sums: &mut [F], counts: &[i32], rows: u32, 
     fill_cells(sums, width, F::zero());
     for x in (0..rows).rev() {
         let start = x as usize * width;
-        add_row(sums, &counts[start..start + width], basis_at(rows, x, point));
+        add_row(
+            sums,
+            &counts[start..start + width],
+            basis_at(rows, x, point),
+        );
     }
 }
