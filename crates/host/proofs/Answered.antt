@@ -1,7 +1,6 @@
 -- What an answer comes to, step by step. Assumes nothing.
-use Rattle.std.proofs.Common.{◌≡◌, ℕ, suc, ◌+◌, ◌*◌, ◌<◌, ◌≤◌, Bool, true, false, cond, ◌&&◌, ltb, leb, List, ◌++◌, length, take, drop, ℤ, Ok, Err, Result, refl, ap, subst, ap₂, arith, length-take, le-ltb, lt-ltb, le-leb}
+use Rattle.std.proofs.Common.{◌≡◌, ℕ, suc, ◌+◌, ◌*◌, ◌≤◌, Bool, true, false, cond, ◌&&◌, ltb, leb, List, ◌++◌, length, take, drop, ℤ, Ok, Err, Result, ap, subst, ap₂, arith, length-take, le-ltb, le-leb}
 use lib.Seq.{take-append_seam}
-use borrow.Author.Tests.{lt-leb}
 use Rattle.board.specs.declared.refusal.Refusal.{Refusal}
 use Rattle.board.specs.declared.refusal.Refusal.TheVariants.{BankShort, CountOutside, QuestionUnfit, TrayShort, PaperShort}
 use Rattle.board.specs.Ledger.{abs_sum}
@@ -14,16 +13,17 @@ use Rattle.protocol.specs.Asking.{suits, terms_of, honest}
 use Rattle.writer.specs.Papers.{write_answer, paper_after}
 use Rattle.writer.specs.Texts.{text}
 use Rattle.host.specs.Rows.{Ranged}
-use Rattle.host.specs.Answering.{answer_ready, tray_filled, answered_by, answered}
+use Rattle.host.specs.Answering.{Answered, answer_ready, tray_filled, answered_by, answered}
+
+-- an answer, a tray and a paper that are alike come to the same
+pub given : {K : Type 0} {a b : Result (ℤ × ℕ) Refusal} {s t : List K} {o p : List ℕ} → a ≡ b → s ≡ t → o ≡ p
+    → ◌≡◌ {A = Answered K} record { answer = a; tray = s; paper = o } record { answer = b; tray = t; paper = p }
+given e f g = λ i. record { answer = e i; tray = f i; paper = g i }
 
 module _ {K : Type 0} (F : FieldModel K) (h v : ℕ) (bank : List ℤ) (q : QuestionModel K) (tray : List K) (paper : List ℕ) where
   -- the counts
   abbrev fs : List ℤ
   fs = take (h * v) bank
-
-  -- a refused answer changes nothing
-  refused : (e : Refusal) → answer_ready F h v bank q tray paper ≡ Err e → answered F h v bank q tray paper ≡ record { answer = Err e; tray = tray; paper = paper }
-  refused e p = ap (λ a. answered_by F h v a q fs tray paper) p
 
   -- the tests, one after the other
   paper_test : Bool → Result (Unit {0}) Refusal
@@ -42,33 +42,10 @@ module _ {K : Type 0} (F : FieldModel K) (h v : ℕ) (bank : List ℤ) (q : Ques
   unfolding tested suit_test tray_test paper_test
   ready s a b c d p₁ p₂ p₃ p₄ p₅ = λ i. tested (p₁ i) (p₂ i) (p₃ i) (p₄ i) (p₅ i)
 
-  pub bank_short : length bank < h * v → answered F h v bank q tray paper ≡ record { answer = Err BankShort; tray = tray; paper = paper }
-  unfolding tested suit_test tray_test paper_test
-  bank_short s = refused BankShort (ready true _ _ _ _ (lt-ltb (length bank) (h * v) s) refl refl refl refl)
-
-  module _ (long : h * v ≤ length bank) where
-    pub heavy : F.limit < abs_sum fs → answered F h v bank q tray paper ≡ record { answer = Err CountOutside; tray = tray; paper = paper }
+  module _ (long : h * v ≤ length bank) (light : abs_sum fs ≤ F.limit) (suit : suits q h v ≡ true) (room : suc (q.degree h) + v ≤ length tray) where
+    pub granted : 9216 ≤ length paper → answered F h v bank q tray paper ≡ answered_by F h v (Ok tt) q fs tray paper
     unfolding tested suit_test tray_test paper_test
-    heavy w = refused CountOutside (ready false false _ _ _ (le-ltb (length bank) (h * v) long) (lt-leb (abs_sum fs) F.limit w) refl refl refl)
-
-    module _ (light : abs_sum fs ≤ F.limit) where
-      pub unfit : suits q h v ≡ false → answered F h v bank q tray paper ≡ record { answer = Err QuestionUnfit; tray = tray; paper = paper }
-      unfolding tested suit_test tray_test paper_test
-      unfit b = refused QuestionUnfit (ready false true false _ _ (le-ltb (length bank) (h * v) long) (le-leb (abs_sum fs) F.limit light) b refl refl)
-
-      module _ (suit : suits q h v ≡ true) where
-        pub tray_short : length tray < suc (q.degree h) + v → answered F h v bank q tray paper ≡ record { answer = Err TrayShort; tray = tray; paper = paper }
-        unfolding tested suit_test tray_test paper_test
-        tray_short c = refused TrayShort (ready false true true true _ (le-ltb (length bank) (h * v) long) (le-leb (abs_sum fs) F.limit light) suit (lt-ltb (length tray) (suc (q.degree h) + v) c) refl)
-
-        module _ (room : suc (q.degree h) + v ≤ length tray) where
-          pub paper_short : length paper < 9216 → answered F h v bank q tray paper ≡ record { answer = Err PaperShort; tray = tray; paper = paper }
-          unfolding tested suit_test tray_test paper_test
-          paper_short d = refused PaperShort (ready false true true false true (le-ltb (length bank) (h * v) long) (le-leb (abs_sum fs) F.limit light) suit (le-ltb (length tray) (suc (q.degree h) + v) room) (lt-ltb (length paper) 9216 d))
-
-          pub granted : 9216 ≤ length paper → answered F h v bank q tray paper ≡ answered_by F h v (Ok tt) q fs tray paper
-          unfolding tested suit_test tray_test paper_test
-          granted d = ap (λ a. answered_by F h v a q fs tray paper) (ready false true true false false (le-ltb (length bank) (h * v) long) (le-leb (abs_sum fs) F.limit light) suit (le-ltb (length tray) (suc (q.degree h) + v) room) (le-ltb (length paper) 9216 d))
+    granted d = ap (λ a. answered_by F h v a q fs tray paper) (ready false true true false false (le-ltb (length bank) (h * v) long) (le-leb (abs_sum fs) F.limit light) suit (le-ltb (length tray) (suc (q.degree h) + v) room) (le-ltb (length paper) 9216 d))
 
   -- the values that stand first in a filled tray
   pub take_honest : (gs : List ℤ) → take (suc (q.degree h)) (tray_filled F h v q gs tray) ≡ honest F h v q gs

@@ -1,3 +1,4 @@
 pub mod Answered
+mod AbsoluteSums
 pub mod Stands
 mod Steps

@@ -1,8 +1,5 @@
 -- Steps of the host's loops. Assumes nothing but the laws of the field.
-use Rattle.std.proofs.Common.{◌≡◌, ℕ, zero, suc, ◌+◌, ◌-◌, ◌*◌, ◌<◌, ◌≤◌, List, [], ◌∷◌, ◌++◌, length, get_or, take, drop, set, replicate, ℤ, pos, negsuc, nat_abs, sym, refl, ap, ◌∙◌, ap₂, mul-le-mul_right, arith, length-drop, length-set, take-append-drop, length-take, get_or-drop, get_or-take, drop-drop, drop-set-lt, w32, SFits}
-use lib.Seq.{take-set-lt}
-use borrow.Rule.Slice.PartMut.{put_mid, mid_of, mid_len, same_len_mid}
-use Rattle.std.proofs.lemmas.Slice.{take-put_mid_below, drop-put_mid, between-put_mid}
+use Rattle.std.proofs.Common.{◌≡◌, ℕ, zero, suc, ◌+◌, ◌-◌, ◌*◌, ◌<◌, ◌≤◌, List, [], ◌∷◌, ◌++◌, length, get_or, take, drop, set, replicate, ℤ, pos, negsuc, nat_abs, sym, refl, ap, ◌∙◌, ap₂, mul-le-mul_right, arith, length-drop, length-take, get_or-drop, get_or-take, w32, SFits}
 use Rattle.field.specs.Field.{FieldModel}
 use Rattle.polynomial.specs.Interpolation.{chi}
 use Rattle.polynomial.specs.Lists.{listed}
@@ -127,37 +124,3 @@ module _ {A : Type 0} (G : ℕ → A) where
 
   pub listed_all : (j : ℕ) (old : List A) → length old ≤ j → j ≤ length old → listed 0 j G ++ drop j old ≡ listed 0 (length old) G
   listed_all j old h k = listed_end 0 j old h k
-
--- ---- one turn of the tray: the part behind s is written, then the place j below s
-pub record Turned {A : Type 0} (G : ℕ → A) (s v j : ℕ) (old ys new : List A) : Type 0 where
-  pub long : length new ≡ length old
-  pub front : take s new ≡ listed 0 (j + 1) G ++ drop (j + 1) (take s old)
-  pub back : drop (s + v) new ≡ drop (s + v) old
-  pub middle : take v (drop s new) ≡ ys
-
-module _ {A : Type 0} (G : ℕ → A) (s v j : ℕ) (tray old ys : List A) (a : A) (room : s + v ≤ length old) (same : length tray ≡ length old) (below : j < s) (size : length ys ≡ v) where
-  pub turn : take s tray ≡ listed 0 j G ++ drop j (take s old) → drop (s + v) tray ≡ drop (s + v) old → a ≡ G j → Turned G s v j old ys (set (put_mid s v tray ys) j a)
-  turn front back e = record {
-    long = length-set (put_mid s v tray ys) j a ∙ whole;
-    front =
-        take-set-lt s (put_mid s v tray ys) j a below ∙ ap (λ xs. set xs j a) (take-put_mid_below s v tray ys s (omega arith) (omega arith) ∙ front)
-        ∙ listed_more G j (take s old) a (omega (arith, length-take s old)) e;
-    back = drop-set-lt (s + v) (put_mid s v tray ys) j a (omega arith) ∙ drop-put_mid s v tray ys (s + v) (omega arith) (omega arith) size ∙ back;
-    middle = ap (take v) (drop-set-lt s (put_mid s v tray ys) j a below) ∙ (let k : v ≡ s + v - s = omega arith in ap (λ n. take n (drop s (put_mid s v tray ys))) k ∙ between-put_mid s v tray ys (s + v) (omega arith) (size ∙ k));
-  }
-    where
-      k : v ≡ s + v - s
-      k = omega arith
-
-      mid : length (mid_of s v tray) ≡ v
-      mid = ap (λ n. length (mid_of s n tray)) k ∙ mid_len s (s + v) tray (omega arith) ∙ sym k
-
-      whole : length (put_mid s v tray ys) ≡ length old
-      whole = same_len_mid s v tray ys (size ∙ sym mid) ∙ same
-
-pub tray_whole : {A : Type 0} (G : ℕ → A) (s v : ℕ) (tray old ys : List A) → s + v ≤ length old → take s tray ≡ listed 0 s G ++ drop s (take s old) → drop (s + v) tray ≡ drop (s + v) old → take v (drop s tray) ≡ ys → tray ≡ listed 0 s G ++ (ys ++ drop (s + v) old)
-tray_whole G s v tray old ys room front back middle =
-    let n : length (take s old) ≡ s = omega (arith, length-take s old) in
-    sym (take-append-drop s tray)
-    ∙ ap₂ ◌++◌ (front ∙ listed_all G s (take s old) (omega arith) (omega arith) ∙ ap (λ k. listed 0 k G) n)
-    (sym (take-append-drop v (drop s tray)) ∙ ap₂ ◌++◌ middle (drop-drop v s tray ∙ back))

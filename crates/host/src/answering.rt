@@ -6,7 +6,7 @@ use crate::counts::absolute_sum;
 use crate::values::fill_values;
 use board::{Grid, Refusal};
 use field::Field;
-use protocol::{suited_degree, terms_of};
+use protocol::Suited;
 use question::Question;
 use writer::write_sheet;
 
@@ -18,19 +18,16 @@ pub(crate) fn answer_counts<F: Field, Q: Question<F>>(
     tray: &mut [F],
     paper: &mut [u8],
 ) -> Result<(i64, usize), Refusal>
-    ensures answer { result ≡ (answered F.Field.model grid.rows grid.columns cells.now (Q.Question.meaning question.now) tray.old paper.old).answer }
-    ensures tray { tray.new ≡ (answered F.Field.model grid.rows grid.columns cells.now (Q.Question.meaning question.now) tray.old paper.old).tray }
-    ensures paper { paper.new ≡ (answered F.Field.model grid.rows grid.columns cells.now (Q.Question.meaning question.now) tray.old paper.old).paper }
+    ensures { record { answer = result; tray = tray.new; paper = paper.new } ≡ answered F.Field.model grid.rows grid.columns cells.now (Q.Question.meaning question.now) tray.old paper.old }
 {
-    let count = grid.cells() as usize;
-    if cells.len() < count {
-        return Err(Refusal::BankShort);
-    }
-    let counts = &cells[0..count];
+    let counts = cells
+        .get(..grid.cells() as usize)
+        .ok_or(Refusal::BankShort)?;
     if absolute_sum(counts) > u64::from(F::limit()) {
         return Err(Refusal::CountOutside);
     }
-    let degree = suited_degree(question, grid)? as usize;
+    let asked = Suited::new(question, grid)?;
+    let degree = asked.degree as usize;
     if tray.len() < degree + 1 + grid.columns() as usize {
         return Err(Refusal::TrayShort);
     }
@@ -38,12 +35,7 @@ pub(crate) fn answer_counts<F: Field, Q: Question<F>>(
         return Err(Refusal::PaperShort);
     }
     let claim = question.tally(grid, counts);
-    fill_values(question, grid, degree, counts, tray);
-    let length = write_sheet(
-        paper,
-        &terms_of(question, grid),
-        claim,
-        &tray[0..degree + 1],
-    )?;
+    fill_values(&asked, counts, tray);
+    let length = write_sheet(paper, &asked.terms(), claim, &tray[..degree + 1])?;
     Ok((claim, length))
 }

@@ -13,8 +13,8 @@ fn add_row<F: Field>(sums: &mut [F], counts: &[i32], weight: F)
     requires ranged { Ranged counts.now }
     ensures { sums.new ≡ added_row F.Field.model weight sums.old counts.now }
 {
-    for y in 0..sums.len() {
-        sums[y] = F::image(counts[y]).product(weight).sum(sums[y]);
+    for (y, sum) in sums.iter_mut().enumerate() {
+        *sum = F::image(counts[y]).product(weight).sum(*sum);
     }
 }
 
@@ -28,11 +28,12 @@ pub(crate) fn fill_columns<F: Field>(sums: &mut [F], counts: &[i32], rows: u32, 
 {
     let width = sums.len();
     fill_cells(sums, width, F::zero());
-    let mut x = rows;
-    while x > 0 {
-        x -= 1;
-        let weight = basis_at(rows, x, point);
+    for x in (0..rows).rev() {
         let start = x as usize * width;
-        add_row(sums, &counts[start..start + width], weight);
+        add_row(
+            sums,
+            &counts[start..start + width],
+            basis_at(rows, x, point),
+        );
     }
 }

@@ -7,9 +7,8 @@ pub(crate) fn absolute_sum(counts: &[i32]) -> u64
     requires { length counts.now ≤ 65536 }
     ensures { result ≡ abs_sum counts.now }
 {
-    let mut sum = 0;
-    for count in counts {
-        sum += u64::from(count.unsigned_abs());
-    }
-    sum
+    counts
+        .iter()
+        .map(|count| u64::from(count.unsigned_abs()))
+        .sum()
 }

@@ -21,9 +21,7 @@ fn add_count(bank: &mut Bank<'_, i32>, limit: u32, m: Move) -> Result<(), Refusa
     ensures lender { bank.new.cells.ghost_name ≡ bank.old.cells.ghost_name }
 {
     let cell = m.cell as usize;
-    let Some(count) = bank.get(cell) else {
-        return Err(Refusal::BankShort);
-    };
+    let count = bank.get(cell).ok_or(Refusal::BankShort)?;
     if count.unsigned_abs() > limit {
         return Err(Refusal::CountOutside);
     }

@@ -26,9 +26,7 @@ impl<F: Field> Sealed<F> {
         tray: &mut [F],
         paper: &mut [u8],
     ) -> Result<(i64, usize), Refusal>
-        ensures answer { result ≡ (answered F.Field.model (standing self.now.book).rows (standing self.now.book).columns bank.now.cells.now (Q.Question.meaning question.now) tray.old paper.old).answer }
-        ensures tray { tray.new ≡ (answered F.Field.model (standing self.now.book).rows (standing self.now.book).columns bank.now.cells.now (Q.Question.meaning question.now) tray.old paper.old).tray }
-        ensures paper { paper.new ≡ (answered F.Field.model (standing self.now.book).rows (standing self.now.book).columns bank.now.cells.now (Q.Question.meaning question.now) tray.old paper.old).paper }
+        ensures { record { answer = result; tray = tray.new; paper = paper.new } ≡ answered F.Field.model (standing self.now.book).rows (standing self.now.book).columns bank.now.cells.now (Q.Question.meaning question.now) tray.old paper.old }
     {
         answer_counts(self.book.grid(), bank.cells(), question, tray, paper)
     }

@@ -20,12 +20,10 @@ pub fn exchange<F: Field, Q: Question<F>>(
     tray: &mut [F],
     paper: &mut [u8],
 ) -> Result<i64, Refusal>
-    ensures answer { result ≡ (exchanged F.Field.model (sealed_host host.now counts.now.cells.now) (sealed_verifier verifier.now sums.now.cells.now) (Q.Question.meaning question.now) tray.old paper.old).answer }
-    ensures tray { tray.new ≡ (exchanged F.Field.model (sealed_host host.now counts.now.cells.now) (sealed_verifier verifier.now sums.now.cells.now) (Q.Question.meaning question.now) tray.old paper.old).tray }
-    ensures paper { paper.new ≡ (exchanged F.Field.model (sealed_host host.now counts.now.cells.now) (sealed_verifier verifier.now sums.now.cells.now) (Q.Question.meaning question.now) tray.old paper.old).paper }
+    ensures { record { answer = result; tray = tray.new; paper = paper.new } ≡ exchanged F.Field.model (sealed_host host.now counts.now.cells.now) (sealed_verifier verifier.now sums.now.cells.now) (Q.Question.meaning question.now) tray.old paper.old }
 {
     let (_, length) = host.answer(counts, question, tray, paper)?;
-    verifier.judge(sums, question, &paper[0..length], tray)
+    verifier.judge(sums, question, &paper[..length], tray)
 }
 
 // Opens a host and a box on the same grid, tells both the moves, seals them, has the host answer the question and the box judge the sheet: the count
@@ -43,11 +41,7 @@ pub fn play_trial<F: Field, Q: Question<F>>(
     paper: &mut [u8],
 ) -> Result<i64, Refusal>
     ensures promise { Promised F.Field.model }
-    ensures answer { result ≡ (trial F.Field.model rows columns point moves.now (Q.Question.meaning question.now) counts.old.cells.now sums.old.cells.now tray.old paper.old).answer }
-    ensures counts { counts.new.cells.now ≡ (trial F.Field.model rows columns point moves.now (Q.Question.meaning question.now) counts.old.cells.now sums.old.cells.now tray.old paper.old).counts }
-    ensures sums { sums.new.cells.now ≡ (trial F.Field.model rows columns point moves.now (Q.Question.meaning question.now) counts.old.cells.now sums.old.cells.now tray.old paper.old).sums }
-    ensures tray { tray.new ≡ (trial F.Field.model rows columns point moves.now (Q.Question.meaning question.now) counts.old.cells.now sums.old.cells.now tray.old paper.old).tray }
-    ensures paper { paper.new ≡ (trial F.Field.model rows columns point moves.now (Q.Question.meaning question.now) counts.old.cells.now sums.old.cells.now tray.old paper.old).paper }
+    ensures trial { record { answer = result; counts = counts.new.cells.now; sums = sums.new.cells.now; tray = tray.new; paper = paper.new } ≡ trial F.Field.model rows columns point moves.now (Q.Question.meaning question.now) counts.old.cells.now sums.old.cells.now tray.old paper.old }
     ensures honest { InOrder F.Field.model rows columns point moves.now (Q.Question.meaning question.now) counts.old.cells.now sums.old.cells.now tray.old paper.old → result ≡ Ok (true_count F.Field.model rows columns moves.now (Q.Question.meaning question.now)) }
     ensures counts_lender { counts.new.cells.ghost_name ≡ counts.old.cells.ghost_name }
     ensures sums_lender { sums.new.cells.ghost_name ≡ sums.old.cells.ghost_name }

@@ -1,7 +1,6 @@
 -- What a judgement comes to, step by step. Assumes nothing.
 use Rattle.std.proofs.Common.{◌≡◌, ℕ, suc, ◌<◌, ◌≤◌, Bool, true, false, cond, ltb, List, ◌++◌, length, take, drop, replicate, ℤ, is_err, Ok, Err, Result, sym, refl, ap, ◌∙◌, subst, ap₂, arith, length-append, length-drop, ltb-true, le-ltb, lt-ltb}
 use lib.Seq.{take-append_seam, drop-append_seam}
-use borrow.Author.Tests.{clash}
 use Rattle.board.specs.declared.refusal.Refusal.{Refusal}
 use Rattle.board.specs.declared.refusal.Refusal.TheVariants.{BankShort, QuestionUnfit, TrayShort}
 use Rattle.board.specs.Banks.{filled}
@@ -9,7 +8,11 @@ use Rattle.field.specs.Field.{FieldModel}
 use Rattle.sheet.specs.Readings.{claim_of, tray_of, read_answer, tray_after}
 use Rattle.question.specs.Question.{QuestionModel}
 use Rattle.protocol.specs.Asking.{suits, terms_of, read_sheet}
-use Rattle.verifier.specs.Judging.{judge_ready, weighed, tray_left, settled_by, judged}
+use Rattle.verifier.specs.Judging.{Judgement, judge_ready, weighed, tray_left, settled_by, judged}
+
+-- an answer and a tray that are alike come to the same
+pub given : {K : Type 0} {a b : Result ℤ Refusal} {s t : List K} → a ≡ b → s ≡ t → ◌≡◌ {A = Judgement K} record { answer = a; tray = s } record { answer = b; tray = t }
+given e f = λ i. record { answer = e i; tray = f i }
 
 module _ {K : Type 0} (F : FieldModel K) (h v : ℕ) (r : K) (bank : List K) (q : QuestionModel K) (sheet : List ℕ) (tray : List K) where
   -- a judgement that is settled before the sheet is read
@@ -93,10 +96,15 @@ module _ {K : Type 0} (F : FieldModel K) (h v : ℕ) (r : K) (bank : List K) (q 
       drop_values = ap (drop n) (is ∙ w.left) ∙ subst (λ k. drop k (w.values ++ drop n tray) ≡ drop n tray) values_length (drop-append_seam w.values (drop n tray))
 
       -- an accepted sheet leaves its values, and a refused one zeros
-      pub left_accepted : (a : Result ℤ Refusal) → is_err a ≡ false → after ≡ tray_left F h v r n (Ok (c, w.values)) a tray
-      left_accepted (Ok x) e = is ∙ w.left
-      left_accepted (Err x) e = absurd (clash (sym e))
+      left : (a : Result ℤ Refusal) → tray_left F h v r n (Ok (c, w.values)) a tray ≡ cond (is_err a) (filled n F.zero after) after
+      left (Ok x) = sym (is ∙ w.left)
+      left (Err x) = sym (ap (λ xs. replicate n F.zero ++ xs) drop_values)
 
-      pub left_refused : (a : Result ℤ Refusal) → is_err a ≡ true → filled n F.zero after ≡ tray_left F h v r n (Ok (c, w.values)) a tray
-      left_refused (Ok x) e = absurd (clash e)
-      left_refused (Err x) e = ap (λ xs. replicate n F.zero ++ xs) drop_values
+    -- once a claim and values were read, the box answers what they weigh, and leaves the tray as it was read or zeros in it
+    pub weighing : (c : ℤ) (after : List K) → suits q h v ≡ true → read_answer F (terms_of q h v) sheet tray ≡ Ok c → after ≡ tray_after F (terms_of q h v) sheet tray → length after ≡ length tray
+        → (a : Result ℤ Refusal) → a ≡ weighed F h v r (take v bank) q c (take (suc (q.degree h)) after)
+        → judged F h v r bank q sheet tray ≡ record { answer = a; tray = cond (is_err a) (filled (suc (q.degree h)) F.zero after) after }
+    weighing c after p told is kept a e =
+        let w = read p c told in
+        let same = e ∙ ap (weighed F h v r (take v bank) q c) (take_values c w after is kept) in
+        w.is ∙ given (sym same) (ap (λ x. tray_left F h v r (suc (q.degree h)) (Ok (c, w.values)) x tray) (sym same) ∙ left c w after is kept a)

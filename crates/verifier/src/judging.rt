@@ -1,13 +1,36 @@
 // What a box finds of a sheet, from the grid, the point and the bank's cells alone.
-ghost use Rattle.std.specs.Prelude.{◌≡◌};
-ghost use Rattle.verifier.specs.Judging.{judged};
+ghost use Rattle.std.specs.Prelude.{◌≡◌, suc, ◌<◌, cond, length, take};
+ghost use Rattle.std.specs.Result.{is_err};
+ghost use Rattle.board.specs.Banks.{filled};
+ghost use Rattle.verifier.specs.Judging.{weighed, judged};
 
 use crate::weighing::weigh;
 use board::{Grid, Refusal, fill_cells};
 use field::Field;
-use protocol::{suited_degree, terms_of};
+use protocol::Suited;
 use question::Question;
 use sheet::read_sheet;
+
+// Weighs a claim and the values that were read into the tray; a refusal leaves zeros in their place.
+fn settle<F: Field, Q: Question<F>>(
+    asked: &Suited<'_, F, Q>,
+    point: F,
+    columns: &[F],
+    claim: i64,
+    tray: &mut [F],
+) -> Result<i64, Refusal>
+    requires wide { length columns.now ≡ asked.now.grid.columns }
+    requires room { asked.now.degree < length tray.old }
+    ensures answer { result ≡ weighed F.Field.model asked.now.grid.rows asked.now.grid.columns point columns.now (Q.Question.meaning asked.now.question.now) claim (take (suc asked.now.degree) tray.old) }
+    ensures tray { tray.new ≡ cond (is_err result) (filled (suc asked.now.degree) F.Field.model.zero tray.old) tray.old }
+{
+    let values = asked.degree as usize + 1;
+    let found = weigh(asked, point, columns, claim, &tray[..values]);
+    if found.is_err() {
+        fill_cells(tray, values, F::zero());
+    }
+    found
+}
 
 // The accepted claim, with the sheet's values in the tray, or a refusal: of the bank, the question, the tray, the sheet, its sum, its value at the point.
 pub(crate) fn judge_cells<F: Field, Q: Question<F>>(
@@ -18,25 +41,12 @@ pub(crate) fn judge_cells<F: Field, Q: Question<F>>(
     sheet: &[u8],
     tray: &mut [F],
 ) -> Result<i64, Refusal>
-    ensures answer { result ≡ (judged F.Field.model grid.rows grid.columns point cells.now (Q.Question.meaning question.now) sheet.now tray.old).answer }
-    ensures tray { tray.new ≡ (judged F.Field.model grid.rows grid.columns point cells.now (Q.Question.meaning question.now) sheet.now tray.old).tray }
+    ensures { record { answer = result; tray = tray.new } ≡ judged F.Field.model grid.rows grid.columns point cells.now (Q.Question.meaning question.now) sheet.now tray.old }
 {
-    let width = grid.columns() as usize;
-    if cells.len() < width {
-        return Err(Refusal::BankShort);
-    }
-    let degree = suited_degree(question, grid)? as usize;
-    let claim = read_sheet(sheet, &terms_of(question, grid), tray)?;
-    let found = weigh(
-        question,
-        grid,
-        point,
-        &cells[0..width],
-        claim,
-        &tray[0..degree + 1],
-    );
-    if found.is_err() {
-        fill_cells(tray, degree + 1, F::zero());
-    }
-    found
+    let columns = cells
+        .get(..grid.columns() as usize)
+        .ok_or(Refusal::BankShort)?;
+    let asked = Suited::new(question, grid)?;
+    let claim = read_sheet(sheet, &asked.terms(), tray)?;
+    settle(&asked, point, columns, claim, tray)
 }

@@ -21,10 +21,8 @@ fn add_share<F: Field>(bank: &mut Bank<'_, F>, grid: Grid, point: F, m: Move) ->
     let row = grid.row_of(m.cell) as u32;
     let column = grid.column_of(m.cell) as usize;
     let share = F::image(m.amount as i32).product(basis_at(grid.rows(), row, point));
-    match bank.get(column) {
-        Some(sum) => bank.put(column, sum.sum(share)),
-        None => Err(Refusal::BankShort),
-    }
+    let sum = bank.get(column).ok_or(Refusal::BankShort)?;
+    bank.put(column, sum.sum(share))
 }
 
 impl<F: Field> Listening<F> {

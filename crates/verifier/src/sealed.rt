@@ -25,8 +25,7 @@ impl<F: Field> Sealed<F> {
         sheet: &[u8],
         tray: &mut [F],
     ) -> Result<i64, Refusal>
-        ensures answer { result ≡ (judged F.Field.model (standing self.now.book).rows (standing self.now.book).columns self.now.point bank.now.cells.now (Q.Question.meaning question.now) sheet.now tray.old).answer }
-        ensures tray { tray.new ≡ (judged F.Field.model (standing self.now.book).rows (standing self.now.book).columns self.now.point bank.now.cells.now (Q.Question.meaning question.now) sheet.now tray.old).tray }
+        ensures { record { answer = result; tray = tray.new } ≡ judged F.Field.model (standing self.now.book).rows (standing self.now.book).columns self.now.point bank.now.cells.now (Q.Question.meaning question.now) sheet.now tray.old }
     {
         judge_cells(
             self.book.grid(),

@@ -12,21 +12,6 @@ loop-x-init g c =
     let all = c.fill_cells.ensures ∙ filled_whole c.zero.result c.args.sums.now ∙ ap (replicate n) c.zero.ensures in
     (omega arith, ap length all ∙ length-replicate n F.zero, all ∙ columns_none F c.args.rows n c.args.counts.now c.args.point)
 
-pub slice_bounds-add_row-end : goal.slice_bounds-add_row-end
-slice_bounds-add_row-end g c =
-    let e = row_end c.args.rows (length c.args.sums.now) (c.loop-x.x - 1) (length c.args.counts.now) (omega arith) c.requires.long in
-    search rules
-
-pub add_row-requires : goal.add_row-requires
-add_row-requires g c =
-    let v = length c.args.sums.now in
-    let a = (c.loop-x.x - 1) * v in
-    let e = row_end c.args.rows v (c.loop-x.x - 1) (length c.args.counts.now) (omega arith) c.requires.long in
-    record {
-      long = omega (arith, row_length v a (a + v - a) c.args.counts.now (omega arith) e, c.loop-x.invariant.1);
-      ranged = ranged_row c.args.counts.now a (a + v - a) c.requires.ranged;
-    }
-
 pub loop-x-preserved : goal.loop-x-preserved
 loop-x-preserved g c =
     let F = g.F.Field.model in
@@ -41,5 +26,5 @@ loop-x-preserved g c =
     let e = row_end h v x (length fs) (omega arith) c.requires.long in
     let before = c.loop-x.invariant.2 ∙ ap (columns_from F h v fs X) s in
     let more = columns_more F h v fs X x (take n (drop (x * v) fs)) (omega arith) (row_length v (x * v) n fs w e) (λ y b. row_at fs (x * v) n y (omega arith)) in
-    let now-is = c.add_row.ensures ∙ ap₂ (λ b cs. added_row F b cs (take n (drop (x * v) fs))) c.basis_at-weight.ensures before ∙ more in
+    let now-is = c.add_row.ensures ∙ ap₂ (λ b cs. added_row F b cs (take n (drop (x * v) fs))) c.basis_at.ensures before ∙ more in
     (omega arith, ap length now-is ∙ length-listed 0 v _, now-is)

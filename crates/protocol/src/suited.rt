@@ -1,0 +1,66 @@
+// A question that suits a grid.
+ghost use Rattle.std.specs.Prelude.{◌≡◌, suc, ◌≤◌, IfOk};
+ghost use Rattle.board.specs.Books.{granted};
+ghost use Rattle.question.specs.declared.outcome.Fit.{Fit};
+ghost use Rattle.protocol.specs.Asking.{suit_answer, terms_of};
+
+use crate::terms::terms_of;
+use board::{Grid, Refusal};
+use field::Field;
+use question::{Fit, Question};
+use sheet::Terms;
+use std::marker::PhantomData;
+
+// A question that fits a grid, and its degree there, which is from rows − 1 to 252.
+#[derive(Drop)]
+pub struct Suited<'a, F: Field, Q: Question<F>> {
+    pub question: &'a Q,
+    pub grid: Grid,
+    pub degree: u32,
+    pub field: PhantomData<F>,
+    ghost fits: { (Q.Question.meaning question.now).fits grid.rows grid.columns ≡ Fit.Fits },
+    ghost stated: { degree ≡ (Q.Question.meaning question.now).degree grid.rows },
+    ghost degree_least: { grid.rows ≤ suc degree },
+    ghost degree_most: { degree ≤ 252 },
+}
+
+impl<'a, F: Field, Q: Question<F>> Suited<'a, F, Q> {
+    // The question, where it suits the grid.
+    pub fn new(question: &'a Q, grid: Grid) -> Result<Suited<'a, F, Q>, Refusal>
+        ensures answer { granted result ≡ suit_answer (Q.Question.meaning question.now) grid.rows grid.columns }
+        ensures question { IfOk result (λ asked. asked.question.now ≡ question.now) }
+        ensures grid { IfOk result (λ asked. asked.grid ≡ grid) }
+    {
+        match question.fit(grid) {
+            Fit::Fits => {
+                let degree = question.degree(grid);
+                if grid.rows() <= degree.saturating_add(1) && degree <= 252 {
+                    Ok(Suited {
+                        question,
+                        grid,
+                        degree,
+                        field: PhantomData,
+                    })
+                } else {
+                    Err(Refusal::QuestionUnfit)
+                }
+            }
+            Fit::DoesNotFit => Err(Refusal::QuestionUnfit),
+        }
+    }
+
+    // What a sheet for the question has to agree with.
+    pub fn terms(&self) -> Terms
+        ensures { result ≡ terms_of (Q.Question.meaning self.now.question.now) self.now.grid.rows self.now.grid.columns }
+    {
+        terms_of(self.question, self.grid)
+    }
+}
+
+// The degree of a question that suits the grid: it fits, and its degree is from rows − 1 to 252.
+pub fn suited_degree<F: Field, Q: Question<F>>(question: &Q, grid: Grid) -> Result<u32, Refusal>
+    ensures answer { granted result ≡ suit_answer (Q.Question.meaning question.now) grid.rows grid.columns }
+    ensures degree { IfOk result (λ d. d ≡ (Q.Question.meaning question.now).degree grid.rows) }
+{
+    Ok(Suited::<F, Q>::new(question, grid)?.degree)
+}

@@ -1,0 +1,31 @@
+// What a sheet for a question states.
+ghost use Rattle.std.specs.Prelude.{◌≡◌};
+ghost use Rattle.protocol.specs.Asking.{terms_of, claim_image};
+
+use board::Grid;
+use field::Field;
+use question::Question;
+use sheet::Terms;
+
+// What a sheet for the question has to agree with.
+pub fn terms_of<F: Field, Q: Question<F>>(question: &Q, grid: Grid) -> Terms
+    ensures { result ≡ terms_of (Q.Question.meaning question.now) grid.rows grid.columns }
+{
+    let tag = question.tag();
+    Terms {
+        rows: grid.rows(),
+        columns: grid.columns(),
+        tag: (tag.kind, tag.first, tag.second),
+        least: question.least(),
+        greatest: question.greatest(),
+        degree: question.degree(grid),
+    }
+}
+
+// The image of a claim, whatever its size.
+pub fn claim_image<F: Field>(claim: i64) -> F
+    ensures { result ≡ claim_image F.Field.model claim }
+{
+    let p = i64::from(F::characteristic());
+    F::of_parts(claim.rem_euclid(p) as u32, 0)
+}
