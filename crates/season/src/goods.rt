@@ -1,7 +1,7 @@
 // The count of one of the eight goods: cell i is of the goods i mod 8, and so is column i.
 ghost use Rattle.question.specs.GoodsSums.{goods_question};
 
-use crate::claims::{column_degree, fit_if, greatest_count, least_count};
+use crate::fits::fit_if;
 use board::Grid;
 use field::Field;
 use question::{Fit, Question, Tag};
@@ -19,15 +19,15 @@ impl<F: Field> Question<F> for Goods {
     }
 
     fn degree(&self, grid: Grid) -> u32 {
-        column_degree(grid)
+        grid.rows() - 1
     }
 
     fn least(&self) -> i64 {
-        least_count::<F>()
+        -i64::from(F::limit())
     }
 
     fn greatest(&self) -> i64 {
-        greatest_count::<F>()
+        i64::from(F::limit())
     }
 
     fn tag(&self) -> Tag {

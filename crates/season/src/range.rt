@@ -4,7 +4,7 @@ ghost use Rattle.polynomial.specs.Interpolation.{chi};
 ghost use Rattle.polynomial.specs.Sums.{sum_from};
 ghost use Rattle.question.specs.Cells.{cells_between, cells_rule, range_question};
 
-use crate::claims::{fit_if, greatest_count, least_count, product_degree};
+use crate::fits::fit_if;
 use board::Grid;
 use field::Field;
 use polynomial::{basis_at, total};
@@ -42,9 +42,9 @@ fn rows_rule<F: Field>(grid: Grid, first: u64, last: u64, point: F, columns: &[F
     if x == last_x {
         return top.product(total(&columns[y..end]));
     }
-    let head = top.product(total(&columns[y..columns.len()]));
+    let head = top.product(total(&columns[y..]));
     let body = basis_total(rows, x + 1, last_x, point).product(total(columns));
-    let tail = basis_at(rows, last_x, point).product(total(&columns[0..end]));
+    let tail = basis_at(rows, last_x, point).product(total(&columns[..end]));
     head.sum(body.sum(tail))
 }
 
@@ -56,15 +56,15 @@ impl<F: Field> Question<F> for Range {
     }
 
     fn degree(&self, grid: Grid) -> u32 {
-        product_degree(grid)
+        2 * (grid.rows() - 1)
     }
 
     fn least(&self) -> i64 {
-        least_count::<F>()
+        -i64::from(F::limit())
     }
 
     fn greatest(&self) -> i64 {
-        greatest_count::<F>()
+        i64::from(F::limit())
     }
 
     fn tag(&self) -> Tag {

@@ -2,7 +2,7 @@
 ghost use Rattle.std.specs.Prelude.{◌≡◌, ◌*ℤ◌};
 ghost use Rattle.question.specs.SquareSums.{squares_question};
 
-use crate::claims::{fit_if, product_degree};
+use crate::fits::fit_if;
 use board::Grid;
 use field::Field;
 use question::{Fit, Question, Tag};
@@ -26,7 +26,7 @@ impl<F: Field> Question<F> for Squares {
     }
 
     fn degree(&self, grid: Grid) -> u32 {
-        product_degree(grid)
+        2 * (grid.rows() - 1)
     }
 
     fn least(&self) -> i64 {

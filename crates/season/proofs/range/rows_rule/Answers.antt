@@ -1,5 +1,4 @@
 use Rattle.std.proofs.Common.{◌≡◌, ◌+◌, ◌-◌, ◌/◌, ◌%◌, ◌<◌, take, drop, sym, ◌∙◌, ap₂, arith}
-use native.Mathlib.Nat.{sub-zero}
 use Rattle.polynomial.specs.Sums.{sum_from, list_sum}
 use Rattle.polynomial.specs.Interpolation.{chi}
 use Rattle.question.proofs.Grids.{row_below, row_order}
@@ -52,7 +51,7 @@ returns g c =
     let first : c.total-2.result ≡ list_sum F (take (v - a % v) (drop (a % v) cs)) = c.total-2.ensures ∙ simp (c.column_of-y.ensures, c.requires.wide) in
     let between : c.basis_total.result ≡ sum_from F (a / v + 1) (b / v - (a / v + 1)) (λ k. chi F h k X) = c.basis_total.ensures ∙ simp (c.rows-rows.ensures, c.row_of-x.ensures, c.row_of-last_x.ensures) in
     let bottom : c.basis_at.result ≡ chi F h (b / v) X = c.basis_at.ensures ∙ ap₂ (λ r k. chi F r k X) c.rows-rows.ensures c.row_of-last_x.ensures in
-    let last : c.total-4.result ≡ list_sum F (take (b % v + 1) cs) = c.total-4.ensures ∙ simp (c.column_of.ensures, sub-zero) in
+    let last : c.total-4.result ≡ list_sum F (take (b % v + 1) cs) = c.total-4.ensures ∙ simp c.column_of.ensures in
     let head = c.product-head.ensures ∙ ap₂ F.mul top first in
     let body = c.product-body.ensures ∙ ap₂ F.mul between c.total-3.ensures in
     let tail = c.product-tail.ensures ∙ ap₂ F.mul bottom last in
