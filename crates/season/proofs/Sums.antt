@@ -1,7 +1,9 @@
 -- Sums as a chain of calls takes them, from the left, and as the definitions take them, from the right. Assumes nothing but the laws of the field.
-use Rattle.std.proofs.Common.{◌≡◌, ℕ, zero, suc, ◌+◌, ◌%◌, ◌≤◌, Bool, true, false, cond, eqb, List, [], ◌∷◌, map, map-id, length, take, drop, ℤ, pos, negsuc, ◌+ℤ◌, ◌*ℤ◌, ◌*◌, nat_abs, Option, fold, filter, sym, ap, ◌∙◌, subst, add-one, mul-le-mul, arith, w64, SFits}
+use Rattle.std.proofs.Common.{◌≡◌, ℕ, zero, suc, ◌+◌, ◌%◌, ◌<◌, ◌^◌, ◌≤◌, Bool, true, false, cond, eqb, List, [], ◌∷◌, map, map-id, length, take, drop, ℤ, pos, ◌+ℤ◌, ◌*ℤ◌, ◌*◌, nat_abs, Option, fold, filter, sym, refl, ap, ◌∙◌, subst, add-one, mul-le-mul, arith, w64, SFits}
 use Rattle.std.specs.List.{enumerate_from, range_with_len}
-use Rattle.std.proofs.lemmas.Int.{ints}
+use Rattle.std.proofs.lemmas.Int.{ints, fits_signed_from_abs}
+use Rattle.std.proofs.lemmas.List.Recursion.{is_sum_by}
+use Rattle.std.proofs.lemmas.List.Sums.{sum_by-take-drop}
 use Rattle.std.proofs.lemmas.Iterator.{YieldsList}
 use Rattle.std.proofs.lemmas.Iterator.Consumers.{YieldsList-so_far}
 use Rattle.std.specs.Iterator.{Yields}
@@ -55,36 +57,27 @@ module _ {K : Type 0} {plus : K → K → K} {none : K} (S : Sum plus none) wher
     pub each_of_goods : (xs : List K) → fold (λ s p. plus s p.1) none (filter (λ p. eqb (p.0 % 8) kind) (enumerate_from 0 xs)) ≡ right 0 xs
     each_of_goods xs = goods_onto none 0 xs ∙ S.from_none (right 0 xs)
 
--- ---- a sum of whole numbers overflows at no item, if the absolute values come to a number of 62 bits
+-- ---- a sum of whole numbers overflows at no item, if the absolute values come to less than 2 ^ 63
 abs_onto : (a : ℤ) (zs : List ℤ) → nat_abs (fold ◌+ℤ◌ a zs) ≤ nat_abs a + abs_sum zs
 abs_onto a [] = omega arith
 abs_onto a (z ∷ zs) = omega (arith, abs_onto (a +ℤ z) zs, abs-add a z)
 
-pub abs-take : (n : ℕ) (zs : List ℤ) → abs_sum (take n zs) ≤ abs_sum zs
-abs-take zero zs = omega arith
-abs-take (suc n) [] = omega arith
-abs-take (suc n) (z ∷ zs) = omega (arith, abs-take n zs)
+pub abs-take-drop : (n : ℕ) (zs : List ℤ) → abs_sum (take n zs) + abs_sum (drop n zs) ≡ abs_sum zs
+abs-take-drop n zs =
+    let same = is_sum_by abs_sum nat_abs refl (λ _ _. refl) in
+    omega (arith, same zs, same (take n zs), same (drop n zs), sum_by-take-drop nat_abs zs n)
 
-pub abs-drop : (n : ℕ) (zs : List ℤ) → abs_sum (drop n zs) ≤ abs_sum zs
-abs-drop zero zs = omega arith
-abs-drop (suc n) [] = omega arith
-abs-drop (suc n) (z ∷ zs) = omega (arith, abs-drop n zs)
-
-fits_64 : (z : ℤ) → nat_abs z ≤ 4611686018427387904 → SFits w64 z
-fits_64 (pos n) h = record { sfits = omega arith }
-fits_64 (negsuc n) h = record { sfits = omega arith }
-
-pub sum_fits : {S : Type 0} {steps : S → Option ℤ → S → Type 0} {all : List ℤ} (s : S) → YieldsList steps (λ x. x) s all → abs_sum all ≤ 4611686018427387904 → EachRunFrom steps s (λ p. SFits w64 (fold ◌+ℤ◌ (pos 0) p.items))
+pub sum_fits : {S : Type 0} {steps : S → Option ℤ → S → Type 0} {all : List ℤ} (s : S) → YieldsList steps (λ x. x) s all → abs_sum all < 2 ^ 63 → EachRunFrom steps s (λ p. SFits w64 (fold ◌+ℤ◌ (pos 0) p.items))
 unfolding YieldsRun
 sum_fits {steps = steps} {all} s e b = λ p _ at.
     let so_far = sym (map-id p.items) ∙ YieldsList-so_far e p.items p.gave.0.0 (subst (λ u. Yields steps u p.items p.gave.0.0) at p.gave.0.1) in
-    fits_64 _ (omega (arith, ap (λ l. nat_abs (fold ◌+ℤ◌ (pos 0) l)) so_far, abs_onto (pos 0) (take (length p.items) all), abs-take (length p.items) all))
+    fits_signed_from_abs w64 _ (omega (arith, ap (λ l. nat_abs (fold ◌+ℤ◌ (pos 0) l)) so_far, abs_onto (pos 0) (take (length p.items) all), abs-take-drop (length p.items) all))
 
 squares_abs : (fs : List ℤ) → abs_sum (map (λ f. f *ℤ f) fs) ≤ abs_sum fs * abs_sum fs
 squares_abs [] = omega arith
 squares_abs (f ∷ fs) = omega (arith, squares_abs fs, ap nat_abs (square f))
 
-pub squares_small : (fs : List ℤ) → abs_sum fs ≤ 46340 → abs_sum (map (λ f. f *ℤ f) fs) ≤ 4611686018427387904
+pub squares_small : (fs : List ℤ) → abs_sum fs ≤ 46340 → abs_sum (map (λ f. f *ℤ f) fs) ≤ 2147395600
 squares_small fs h = omega (arith, squares_abs fs, mul-le-mul {n₁ = abs_sum fs} {m₁ = abs_sum fs} {n₂ = 46340} {m₂ = 46340} h h)
 
 pub goods_abs : (kind j : ℕ) (fs : List ℤ) → abs_sum (map (λ p. p.1) (filter (λ p. eqb (p.0 % 8) kind) (enumerate_from j fs))) ≤ abs_sum fs

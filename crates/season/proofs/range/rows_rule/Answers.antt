@@ -1,14 +1,9 @@
 use Rattle.std.proofs.Common.{◌≡◌, ◌+◌, ◌-◌, ◌/◌, ◌%◌, ◌<◌, take, drop, sym, ◌∙◌, ap₂, arith}
 use Rattle.polynomial.specs.Sums.{sum_from, list_sum}
 use Rattle.polynomial.specs.Interpolation.{chi}
-use Rattle.question.proofs.Grids.{row_below, row_order}
+use Rattle.question.proofs.Grids.{row_order}
 use Rattle.season.proofs.Ranges.{in_one_row, in_several_rows}
 use Rattle.season.proofs.range.rows_rule.Goals as goal
-
-pub basis_at-top-requires : goal.basis_at-top-requires
-basis_at-top-requires g c =
-    let b = row_below c.args.grid.rows c.args.grid.columns c.args.first (omega arith) (omega arith) in
-    record { few = omega arith; inside = omega arith }
 
 pub returns-then-x-last_x : goal.returns-then-x-last_x
 returns-then-x-last_x g c =
@@ -23,18 +18,6 @@ returns-then-x-last_x g c =
     let top : c.basis_at-top.result ≡ chi F h (a / v) X = c.basis_at-top.ensures ∙ ap₂ (λ r k. chi F r k X) c.rows-rows.ensures c.row_of-x.ensures in
     let part : c.total.result ≡ list_sum F (take (b % v + 1 - a % v) (drop (a % v) cs)) = c.total.ensures ∙ simp (c.column_of.ensures, c.column_of-y.ensures) in
     c.product.ensures ∙ ap₂ F.mul top part ∙ sym (in_one_row g.met.F.Field.lawful h v X cs c.requires.wide a b (omega arith) c.requires.ordered same)
-
-pub basis_total-requires : goal.basis_total-requires
-basis_total-requires g c =
-    let v = c.args.grid.columns in
-    let above = row_order v c.args.first c.args.last (omega arith) c.requires.ordered in
-    let b = row_below c.args.grid.rows v c.args.last (omega arith) (omega arith) in
-    record { few = omega arith; ordered = omega arith; inside = omega arith }
-
-pub basis_at-requires : goal.basis_at-requires
-basis_at-requires g c =
-    let b = row_below c.args.grid.rows c.args.grid.columns c.args.last (omega arith) (omega arith) in
-    record { few = omega arith; inside = omega arith }
 
 pub returns : goal.returns
 returns g c =

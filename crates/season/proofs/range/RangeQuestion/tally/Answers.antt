@@ -2,9 +2,10 @@ use Rattle.std.proofs.Common.{◌≡◌, suc, ◌+◌, ◌-◌, ◌*◌, ◌+ℤ
 use Rattle.std.proofs.lemmas.Int.{to_z-of_z}
 use Rattle.std.proofs.lemmas.Iterator.{YieldsList-from_slice, YieldsList-from_map}
 use Rattle.std.proofs.lemmas.Iterator.Adapters.{total_from_yields_List}
+use Rattle.std.proofs.lemmas.Bool.{and_parts}
 use Rattle.field.proofs.Consequences.{limit_small}
-use Rattle.question.proofs.Grids.{test_holds, both_true}
-use Rattle.season.proofs.Sums.{sum_fits, abs-take, abs-drop}
+use Rattle.question.proofs.Grids.{test_holds}
+use Rattle.season.proofs.Sums.{sum_fits, abs-take-drop}
 use Rattle.season.proofs.Ranges.{range_tally}
 use Rattle.season.proofs.range.RangeQuestion.tally.Goals as goal
 
@@ -14,7 +15,7 @@ sum-requires-clause-fits g c =
     let fs = c.args.counts.now in
     let part = take (q.last + 1 - q.first) (drop q.first fs) in
     sum_fits _ (YieldsList-from_map _ (λ f. f) (YieldsList-from_slice part cc) c.map.ensures.closure (λ x r q k. search rules))
-    (rw map-id (omega (arith, abs-take (q.last + 1 - q.first) (drop q.first fs), abs-drop q.first fs, c.requires.within.light, limit_small g.met.F.Field.lawful)))
+    (rw map-id (omega (arith, abs-take-drop (q.last + 1 - q.first) (drop q.first fs), abs-take-drop q.first fs, c.requires.within.light, limit_small g.met.F.Field.lawful)))
 
 pub returns : goal.returns
 returns g c =
@@ -22,7 +23,7 @@ returns g c =
     let fs = c.args.counts.now in
     let h = c.args._grid.rows in
     let v = c.args._grid.columns in
-    let t = both_true (leb q.first q.last) (ltb q.last (h * v)) (test_holds _ c.requires.fitting) in
+    let t = and_parts (leb q.first q.last) (ltb q.last (h * v)) (test_holds _ c.requires.fitting) in
     let order = leb-true q.first q.last t.0 in
     let inside = ltb-true q.last (h * v) t.1 in
     let part = take (q.last + 1 - q.first) (drop q.first fs) in

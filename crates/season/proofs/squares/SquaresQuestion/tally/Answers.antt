@@ -11,7 +11,7 @@ use Rattle.season.proofs.squares.SquaresQuestion.tally.Goals as goal
 pub sum-requires-clause-fits : goal.sum-requires-clause-fits
 sum-requires-clause-fits g c =
     let fs = c.args.counts.now in
-    sum_fits _ (YieldsList-from_map _ (λ f. f *ℤ f) (YieldsList-from_slice fs cc) c.map.ensures.closure (λ x r q k. search rules)) (squares_small fs (omega (arith, c.requires.within.light, limit_small g.met.F.Field.lawful)))
+    sum_fits _ (YieldsList-from_map _ (λ f. f *ℤ f) (YieldsList-from_slice fs cc) c.map.ensures.closure (λ x r q k. search rules)) (omega (arith, squares_small fs (omega (arith, c.requires.within.light, limit_small g.met.F.Field.lawful))))
 
 pub returns : goal.returns
 returns g c =
