@@ -58,10 +58,12 @@ module _ {K : Type 0} {plus : K → K → K} {none : K} (S : Sum plus none) wher
     each_of_goods xs = goods_onto none 0 xs ∙ S.from_none (right 0 xs)
 
 -- ---- a sum of whole numbers overflows at no item, if the absolute values come to less than 2 ^ 63
+-- a sum begun at a
 abs_onto : (a : ℤ) (zs : List ℤ) → nat_abs (fold ◌+ℤ◌ a zs) ≤ nat_abs a + abs_sum zs
 abs_onto a [] = omega arith
 abs_onto a (z ∷ zs) = omega (arith, abs_onto (a +ℤ z) zs, abs-add a z)
 
+-- the front and the rest
 pub abs-take-drop : (n : ℕ) (zs : List ℤ) → abs_sum (take n zs) + abs_sum (drop n zs) ≡ abs_sum zs
 abs-take-drop n zs =
     let same = is_sum_by abs_sum nat_abs refl (λ _ _. refl) in
@@ -73,6 +75,7 @@ sum_fits {steps = steps} {all} s e b = λ p _ at.
     let so_far = sym (map-id p.items) ∙ YieldsList-so_far e p.items p.gave.0.0 (subst (λ u. Yields steps u p.items p.gave.0.0) at p.gave.0.1) in
     fits_signed_from_abs w64 _ (omega (arith, ap (λ l. nat_abs (fold ◌+ℤ◌ (pos 0) l)) so_far, abs_onto (pos 0) (take (length p.items) all), abs-take-drop (length p.items) all))
 
+-- the squares of counts
 squares_abs : (fs : List ℤ) → abs_sum (map (λ f. f *ℤ f) fs) ≤ abs_sum fs * abs_sum fs
 squares_abs [] = omega arith
 squares_abs (f ∷ fs) = omega (arith, squares_abs fs, ap nat_abs (square f))
@@ -80,6 +83,7 @@ squares_abs (f ∷ fs) = omega (arith, squares_abs fs, ap nat_abs (square f))
 pub squares_small : (fs : List ℤ) → abs_sum fs ≤ 46340 → abs_sum (map (λ f. f *ℤ f) fs) ≤ 2147395600
 squares_small fs h = omega (arith, squares_abs fs, mul-le-mul {n₁ = abs_sum fs} {m₁ = abs_sum fs} {n₂ = 46340} {m₂ = 46340} h h)
 
+-- the counts of one of the goods
 pub goods_abs : (kind j : ℕ) (fs : List ℤ) → abs_sum (map (λ p. p.1) (filter (λ p. eqb (p.0 % 8) kind) (enumerate_from j fs))) ≤ abs_sum fs
 goods_abs kind j [] = omega arith
 goods_abs kind j (f ∷ fs) = picked (eqb (j % 8) kind) _ (goods_abs kind (j + 1) fs)
