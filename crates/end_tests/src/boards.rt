@@ -7,7 +7,11 @@ use prime::{Mersenne31, Mod65537};
 use std::process::Abort;
 use std::test::Fail;
 
-const STEPS: [Step; 3] = [(0, 3, 0, 3, 1), (8, 1, 0, 4, 2), (9, -2, 0, 6, 3)];
+const STEPS: [Step; 3] = [
+    (0, 3, Ok(()), 3, 1),
+    (8, 1, Ok(()), 4, 2),
+    (9, -2, Ok(()), 6, 3),
+];
 
 #[test]
 fn at_the_host(rt: HostRuntime) -> Result<(), Fail> {
@@ -16,7 +20,7 @@ fn at_the_host(rt: HostRuntime) -> Result<(), Fail> {
     let Ok(mut end) = host::Listening::<Mod65537>::open(2, 8, &mut bank) else {
         return Err(Fail::new("no host"));
     };
-    check_host_notes(&rt, &mut end, &mut bank, &STEPS);
+    check_notes(&rt, &mut end, &mut bank, &STEPS);
     check_book(&rt, end.seal().book(), 6, 3);
     assert_eq!(rt;
         counts,
@@ -37,7 +41,7 @@ fn check_box<F: Field>(
     let Ok(mut end) = verifier::Listening::open(2, 8, point, &mut bank) else {
         return Err(Fail::new("no box"));
     };
-    check_box_notes(rt, &mut end, &mut bank, &STEPS);
+    check_notes(rt, &mut end, &mut bank, &STEPS);
     check_book(rt, end.seal().book(), 6, 3);
     for (y, cell) in bank.cells().iter().enumerate() {
         let (low, high) = match y {

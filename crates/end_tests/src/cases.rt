@@ -1,20 +1,66 @@
-// What the tests share: moves with what is expected of them, and games of one end.
+// What the tests share: the two ends behind one trait, and moves with what is expected of them.
 use board::{Bank, Book, Move, Refusal};
 use field::Field;
 use std::process::Abort;
-use std::test::Fail;
 
-// A move by its cell and amount, the number of its refusal (0 where it is accepted), and the weight and the number of
-// accepted moves after it.
-pub(crate) type Step = (u64, i64, u8, u32, u32);
+// An end that listens.
+pub(crate) trait End: Drop {
+    type Cell: Copy;
 
-// The number of a refusal, 0 for none.
-pub(crate) fn refusal_number<T: Drop>(answer: Result<T, Refusal>) -> u8 {
-    match answer {
-        Ok(_) => 0,
-        Err(refusal) => refusal.number(),
+    // A new end; a box is at the point 5.
+    fn open(rows: u64, columns: u64, bank: &mut Bank<'_, Self::Cell>) -> Result<Self, Refusal>;
+
+    fn note(&mut self, bank: &mut Bank<'_, Self::Cell>, m: Move) -> Result<(), Refusal>;
+
+    fn book(&self) -> &Book;
+
+    // The number that a cell holds.
+    fn held(cell: Self::Cell) -> i64;
+}
+
+impl<F: Field> End for host::Listening<F> {
+    type Cell = i32;
+
+    fn open(rows: u64, columns: u64, bank: &mut Bank<'_, i32>) -> Result<Self, Refusal> {
+        host::Listening::open(rows, columns, bank)
+    }
+
+    fn note(&mut self, bank: &mut Bank<'_, i32>, m: Move) -> Result<(), Refusal> {
+        host::Listening::note(self, bank, m)
+    }
+
+    fn book(&self) -> &Book {
+        host::Listening::book(self)
+    }
+
+    fn held(cell: i32) -> i64 {
+        i64::from(cell)
     }
 }
+
+impl<F: Field> End for verifier::Listening<F> {
+    type Cell = F;
+
+    fn open(rows: u64, columns: u64, bank: &mut Bank<'_, F>) -> Result<Self, Refusal> {
+        verifier::Listening::open(rows, columns, F::image(5), bank)
+    }
+
+    fn note(&mut self, bank: &mut Bank<'_, F>, m: Move) -> Result<(), Refusal> {
+        verifier::Listening::note(self, bank, m)
+    }
+
+    fn book(&self) -> &Book {
+        verifier::Listening::book(self)
+    }
+
+    fn held(cell: F) -> i64 {
+        i64::from(cell.low())
+    }
+}
+
+// A move by its cell and amount, its answer with a refusal by its number, and the weight and the number of accepted moves
+// after it.
+pub(crate) type Step = (u64, i64, Result<(), u8>, u32, u32);
 
 // The book of a board of 2 rows and 8 columns.
 pub(crate) fn check_book(rt: &impl Abort, book: &Book, weight: u32, number: u32) {
@@ -22,32 +68,16 @@ pub(crate) fn check_book(rt: &impl Abort, book: &Book, weight: u32, number: u32)
     assert!(rt; book.weight() == weight && book.number() == number);
 }
 
-// Tells a host moves.
-pub(crate) fn check_host_notes<F: Field>(
+// Tells an end moves.
+pub(crate) fn check_notes<E: End>(
     rt: &impl Abort,
-    end: &mut host::Listening<F>,
-    bank: &mut Bank<'_, i32>,
+    end: &mut E,
+    bank: &mut Bank<'_, E::Cell>,
     steps: &[Step],
 ) {
-    for step in steps {
-        let (cell, amount, refusal, weight, number) = *step;
-        let answer = end.note(bank, Move { cell, amount });
-        assert!(rt; refusal_number(answer) == refusal);
-        check_book(rt, end.book(), weight, number);
-    }
-}
-
-// Tells a box moves.
-pub(crate) fn check_box_notes<F: Field>(
-    rt: &impl Abort,
-    end: &mut verifier::Listening<F>,
-    bank: &mut Bank<'_, F>,
-    steps: &[Step],
-) {
-    for step in steps {
-        let (cell, amount, refusal, weight, number) = *step;
-        let answer = end.note(bank, Move { cell, amount });
-        assert!(rt; refusal_number(answer) == refusal);
+    for (cell, amount, answer, weight, number) in steps.iter().copied() {
+        let noted = end.note(bank, Move { cell, amount });
+        assert_eq!(rt; noted.map_err(|refusal| refusal.number()), answer);
         check_book(rt, end.book(), weight, number);
     }
 }

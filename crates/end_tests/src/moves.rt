@@ -6,96 +6,101 @@ use prime::Mod65537;
 use std::process::Abort;
 use std::test::Fail;
 
-// A new host and a new box at the point 5 are told the moves. Then one cell of each bank is not 0: those given, with what
-// they hold.
-fn check_moves(
+type Host = host::Listening<Mod65537>;
+
+type Verifier = verifier::Listening<Mod65537>;
+
+// A new end is told the moves. Then one cell of its bank is not 0: the one given, with what it holds.
+fn check_moves<E: End>(
     rt: &impl Abort,
+    memory: &mut [E::Cell],
     steps: &[Step],
-    count: (usize, i32),
-    sum: (usize, u32),
+    changed: (usize, i64),
 ) -> Result<(), Fail> {
-    let mut counts = [7; 16];
-    let mut bank = Bank::new(&mut counts);
-    let Ok(mut end) = host::Listening::<Mod65537>::open(2, 8, &mut bank) else {
-        return Err(Fail::new("no host"));
+    let mut bank = Bank::new(memory);
+    let Ok(mut end) = E::open(2, 8, &mut bank) else {
+        return Err(Fail::new("no end"));
     };
-    check_host_notes(rt, &mut end, &mut bank, steps);
-    for i in 0..16 {
-        assert!(rt; counts[i] == if i == count.0 { count.1 } else { 0 });
-    }
-    let mut sums = [Mod65537::one(); 8];
-    let mut bank = Bank::new(&mut sums);
-    let Ok(mut end) = verifier::Listening::open(2, 8, Mod65537::image(5), &mut bank) else {
-        return Err(Fail::new("no box"));
-    };
-    check_box_notes(rt, &mut end, &mut bank, steps);
-    for y in 0..8 {
-        assert!(rt; sums[y].low() == if y == sum.0 { sum.1 } else { 0 });
+    check_notes(rt, &mut end, &mut bank, steps);
+    let (place, held) = changed;
+    for (i, cell) in memory.iter().enumerate() {
+        assert_eq!(rt; E::held(*cell), if i == place { held } else { 0 });
     }
     Ok(())
+}
+
+// The same at both ends, each with a bank just long enough.
+fn check_both(
+    rt: &impl Abort,
+    steps: &[Step],
+    count: (usize, i64),
+    sum: (usize, i64),
+) -> Result<(), Fail> {
+    check_moves::<Host>(rt, &mut [7; 16], steps, count)?;
+    check_moves::<Verifier>(rt, &mut [Mod65537::one(); 8], steps, sum)
 }
 
 #[test]
 fn limits(rt: HostRuntime) -> Result<(), Fail> {
     // One move fills the weight. Afterwards every other move is refused, with the first refusal that applies.
     let steps = [
-        (0, 256, 0, 256, 1),
-        (0, 1, 3, 256, 1),
-        (15, -1, 3, 256, 1),
-        (0, 0, 2, 256, 1),
-        (0, 257, 2, 256, 1),
-        (0, -257, 2, 256, 1),
-        (0, i64::MIN, 2, 256, 1),
-        (0, i64::MAX, 2, 256, 1),
-        (16, 1, 1, 256, 1),
-        (u64::MAX, 1, 1, 256, 1),
-        (16, 0, 1, 256, 1),
-        (u64::MAX, i64::MIN, 1, 256, 1),
+        (0, 256, Ok(()), 256, 1),
+        (0, 1, Err(3), 256, 1),
+        (15, -1, Err(3), 256, 1),
+        (0, 0, Err(2), 256, 1),
+        (0, 257, Err(2), 256, 1),
+        (0, -257, Err(2), 256, 1),
+        (0, i64::MIN, Err(2), 256, 1),
+        (0, i64::MAX, Err(2), 256, 1),
+        (16, 1, Err(1), 256, 1),
+        (u64::MAX, 1, Err(1), 256, 1),
+        (16, 0, Err(1), 256, 1),
+        (u64::MAX, i64::MIN, Err(1), 256, 1),
     ];
-    check_moves(&rt, &steps, (0, 256), (0, 64513))?;
+    check_both(&rt, &steps, (0, 256), (0, 64513))?;
     // The last cell.
     let steps = [
-        (15, -256, 0, 256, 1),
-        (15, 1, 3, 256, 1),
-        (16, -256, 1, 256, 1),
+        (15, -256, Ok(()), 256, 1),
+        (15, 1, Err(3), 256, 1),
+        (16, -256, Err(1), 256, 1),
     ];
-    check_moves(&rt, &steps, (15, -256), (7, 64257))?;
+    check_both(&rt, &steps, (15, -256), (7, 64257))?;
     // Amounts that cancel still weigh.
     let steps = [
-        (3, 100, 0, 100, 1),
-        (3, -100, 0, 200, 2),
-        (3, 57, 3, 200, 2),
-        (3, -57, 3, 200, 2),
-        (16, 56, 1, 200, 2),
-        (3, 56, 0, 256, 3),
-        (3, -1, 3, 256, 3),
+        (3, 100, Ok(()), 100, 1),
+        (3, -100, Ok(()), 200, 2),
+        (3, 57, Err(3), 200, 2),
+        (3, -57, Err(3), 200, 2),
+        (16, 56, Err(1), 200, 2),
+        (3, 56, Ok(()), 256, 3),
+        (3, -1, Err(3), 256, 3),
     ];
-    check_moves(&rt, &steps, (3, 56), (3, 65313))
+    check_both(&rt, &steps, (3, 56), (3, 65313))
 }
 
 // A bank with a cell too few is told of before any fault of the move.
+fn check_short<E: End>(rt: &impl Abort, memory: &mut [E::Cell]) -> Result<(), Fail> {
+    let Ok(mut end) = E::open(2, 8, &mut Bank::new(memory)) else {
+        return Err(Fail::new("no end"));
+    };
+    let steps = [(0, 1, Err(12), 0, 0), (16, 0, Err(12), 0, 0)];
+    assert!(rt; !memory.is_empty());
+    let last = memory.len() - 1;
+    check_notes(rt, &mut end, &mut Bank::new(&mut memory[..last]), &steps);
+    Ok(())
+}
+
 #[test]
 fn short_banks(rt: HostRuntime) -> Result<(), Fail> {
-    let steps = [(0, 1, 12, 0, 0), (16, 0, 12, 0, 0)];
-    let mut counts = [0; 16];
-    let Ok(mut end) = host::Listening::<Mod65537>::open(2, 8, &mut Bank::new(&mut counts)) else {
-        return Err(Fail::new("no host"));
-    };
-    check_host_notes(&rt, &mut end, &mut Bank::new(&mut counts[0..15]), &steps);
-    let mut sums = [Mod65537::zero(); 8];
-    let point = Mod65537::image(5);
-    let Ok(mut end) = verifier::Listening::open(2, 8, point, &mut Bank::new(&mut sums)) else {
-        return Err(Fail::new("no box"));
-    };
-    check_box_notes(&rt, &mut end, &mut Bank::new(&mut sums[0..7]), &steps);
-    Ok(())
+    check_short::<Host>(&rt, &mut [0; 16])?;
+    check_short::<Verifier>(&rt, &mut [Mod65537::zero(); 8])
 }
 
 // Counts that no moves make: a host takes no move at one beyond the limit, and tells so after all faults of the move.
 #[test]
 fn counts_outside(rt: HostRuntime) -> Result<(), Fail> {
     let mut counts = [0; 16];
-    let Ok(mut end) = host::Listening::<Mod65537>::open(2, 8, &mut Bank::new(&mut counts)) else {
+    let Ok(mut end) = Host::open(2, 8, &mut Bank::new(&mut counts)) else {
         return Err(Fail::new("no host"));
     };
     let mut counts = [
@@ -117,21 +122,21 @@ fn counts_outside(rt: HostRuntime) -> Result<(), Fail> {
         0,
     ];
     let steps = [
-        (0, 1, 13, 0, 0),
-        (0, -1, 13, 0, 0),
-        (1, 1, 13, 0, 0),
-        (1, -1, 13, 0, 0),
-        (2, 1, 13, 0, 0),
-        (3, 1, 0, 1, 1),
-        (3, -1, 13, 1, 1),
-        (4, -1, 0, 2, 2),
-        (4, 1, 13, 2, 2),
-        (5, 254, 0, 256, 3),
-        (0, 1, 3, 256, 3),
-        (0, 0, 2, 256, 3),
-        (16, 0, 1, 256, 3),
+        (0, 1, Err(13), 0, 0),
+        (0, -1, Err(13), 0, 0),
+        (1, 1, Err(13), 0, 0),
+        (1, -1, Err(13), 0, 0),
+        (2, 1, Err(13), 0, 0),
+        (3, 1, Ok(()), 1, 1),
+        (3, -1, Err(13), 1, 1),
+        (4, -1, Ok(()), 2, 2),
+        (4, 1, Err(13), 2, 2),
+        (5, 254, Ok(()), 256, 3),
+        (0, 1, Err(3), 256, 3),
+        (0, 0, Err(2), 256, 3),
+        (16, 0, Err(1), 256, 3),
     ];
-    check_host_notes(&rt, &mut end, &mut Bank::new(&mut counts), &steps);
+    check_notes(&rt, &mut end, &mut Bank::new(&mut counts), &steps);
     assert_eq!(rt;
         counts,
         [

@@ -5,32 +5,29 @@ use field::Field;
 use prime::Mod65537;
 use std::process::Abort;
 
-// Rows and columns, the cells of the bank, the number of the refusal (0 where the open is granted), and how many cells
-// are zero afterwards; all held 7.
-type Case = (u64, u64, usize, u8, usize);
+// Rows and columns, the cells of the bank, the answer with a refusal by its number, and how many cells are zero
+// afterwards; all held 7.
+type Case = (u64, u64, usize, Result<(), u8>, usize);
 
-fn check_host_open(rt: &impl Abort, case: Case) {
-    let (rows, columns, cells, refusal, zeros) = case;
-    let mut memory = [7; 520];
-    assert!(rt; cells <= 520);
-    let mut bank = Bank::new(&mut memory[0..cells]);
-    let answer = host::Listening::<Mod65537>::open(rows, columns, &mut bank);
-    assert!(rt; refusal_number(answer) == refusal);
+fn check_open<E: End>(rt: &impl Abort, memory: &mut [E::Cell], case: Case) {
+    let (rows, columns, cells, answer, zeros) = case;
+    assert!(rt; cells <= memory.len());
+    let opened = E::open(rows, columns, &mut Bank::new(&mut memory[..cells]));
+    assert_eq!(rt;
+        opened.map(|_| ()).map_err(|refusal| refusal.number()),
+        answer
+    );
     for (i, cell) in memory.iter().enumerate() {
-        assert!(rt; *cell == if i < zeros { 0 } else { 7 });
+        assert_eq!(rt; E::held(*cell), if i < zeros { 0 } else { 7 });
     }
 }
 
+fn check_host_open(rt: &impl Abort, case: Case) {
+    check_open::<host::Listening<Mod65537>>(rt, &mut [7; 520], case);
+}
+
 fn check_box_open(rt: &impl Abort, case: Case) {
-    let (rows, columns, cells, refusal, zeros) = case;
-    let mut memory = [Mod65537::image(7); 1032];
-    assert!(rt; cells <= 1032);
-    let mut bank = Bank::new(&mut memory[0..cells]);
-    let answer = verifier::Listening::open(rows, columns, Mod65537::image(5), &mut bank);
-    assert!(rt; refusal_number(answer) == refusal);
-    for (y, cell) in memory.iter().enumerate() {
-        assert!(rt; cell.low() == if y < zeros { 0 } else { 7 });
-    }
+    check_open::<verifier::Listening<Mod65537>>(rt, &mut [Mod65537::image(7); 1032], case);
 }
 
 #[test]
@@ -47,29 +44,29 @@ fn opens(rt: HostRuntime) {
     ];
     for (rows, columns) in grids {
         for cells in [0, 520] {
-            check_host_open(&rt, (rows, columns, cells, 10, 0));
-            check_box_open(&rt, (rows, columns, cells, 10, 0));
+            check_host_open(&rt, (rows, columns, cells, Err(10), 0));
+            check_box_open(&rt, (rows, columns, cells, Err(10), 0));
         }
     }
     let host_cases = [
-        (64, 8, 512, 0, 512),
-        (1, 8, 8, 0, 8),
-        (2, 8, 17, 0, 16),
-        (2, 8, 16, 0, 16),
-        (2, 8, 15, 12, 0),
-        (2, 8, 0, 12, 0),
+        (64, 8, 512, Ok(()), 512),
+        (1, 8, 8, Ok(()), 8),
+        (2, 8, 17, Ok(()), 16),
+        (2, 8, 16, Ok(()), 16),
+        (2, 8, 15, Err(12), 0),
+        (2, 8, 0, Err(12), 0),
     ];
     for case in host_cases {
         check_host_open(&rt, case);
     }
     let box_cases = [
-        (64, 8, 8, 0, 8),
-        (1, 1024, 1024, 0, 1024),
-        (1, 1024, 1023, 12, 0),
-        (2, 8, 9, 0, 8),
-        (2, 8, 8, 0, 8),
-        (2, 8, 7, 12, 0),
-        (2, 8, 0, 12, 0),
+        (64, 8, 8, Ok(()), 8),
+        (1, 1024, 1024, Ok(()), 1024),
+        (1, 1024, 1023, Err(12), 0),
+        (2, 8, 9, Ok(()), 8),
+        (2, 8, 8, Ok(()), 8),
+        (2, 8, 7, Err(12), 0),
+        (2, 8, 0, Err(12), 0),
     ];
     for case in box_cases {
         check_box_open(&rt, case);

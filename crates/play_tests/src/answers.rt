@@ -1,5 +1,6 @@
 // This season's questions on a worked board, answered by a host.
-use board::{Bank, Move};
+use crate::moves::MOVES;
+use board::Bank;
 use extension::Extension;
 use field::Field;
 use prime::Mod65537;
@@ -8,80 +9,87 @@ use season::{Cell, Goods, Range, Season, Squares};
 use std::process::Abort;
 use std::test::Fail;
 
-const MOVES: [Move; 3] = [
-    Move { cell: 0, amount: 3 },
-    Move { cell: 8, amount: 1 },
-    Move {
-        cell: 9,
-        amount: -2,
-    },
-];
-
-// The claim of a host told the moves, or the refusal's number below −1,000, with a tray and a paper of these lengths.
-fn claimed<Q: Question<Mod65537>>(question: &Q, tray: &mut [Mod65537], paper: &mut [u8]) -> i64 {
+// A host told the moves claims this, or refuses with this number, with a tray and a paper of these lengths.
+fn check_room(
+    rt: &impl Abort,
+    question: &impl Question<Mod65537>,
+    tray: &mut [Mod65537],
+    paper: &mut [u8],
+    claim: Result<i64, u8>,
+) -> Result<(), Fail> {
     let mut counts = [9i32; 17];
     let mut counts = Bank::new(&mut counts);
-    match host::Listening::<Mod65537>::open(2, 8, &mut counts) {
-        Ok(mut host) => {
-            for m in MOVES.iter() {
-                let _ = host.note(&mut counts, *m);
-            }
-            match host.seal().answer(&counts, question, tray, paper) {
-                Ok((claim, _)) => claim,
-                Err(refusal) => -1000 - i64::from(refusal.number()),
-            }
-        }
-        Err(refusal) => -1000 - i64::from(refusal.number()),
+    let Ok(mut host) = host::Listening::<Mod65537>::open(2, 8, &mut counts) else {
+        return Err(Fail::new("the host did not open"));
+    };
+    for m in MOVES {
+        let _ = host.note(&mut counts, m);
     }
+    let found = host.seal().answer(&counts, question, tray, paper);
+    assert_eq!(rt;
+        found
+            .map(|(claim, _)| claim)
+            .map_err(|refusal| refusal.number()),
+        claim
+    );
+    Ok(())
 }
 
-fn check_claim<Q: Question<Mod65537>>(rt: &impl Abort, question: &Q, claim: i64) {
-    let zero = Mod65537::zero();
-    assert_eq!(rt; claimed(question, &mut [zero; 11], &mut [0; 9216]), claim);
+// With buffers long enough.
+fn check_claim(
+    rt: &impl Abort,
+    question: &impl Question<Mod65537>,
+    claim: Result<i64, u8>,
+) -> Result<(), Fail> {
+    check_room(
+        rt,
+        question,
+        &mut [Field::zero(); 11],
+        &mut [0; 9216],
+        claim,
+    )
 }
 
 #[test]
-fn true_counts(rt: HostRuntime) {
-    check_claim(&rt, &Squares, 14);
-    check_claim(&rt, &Range { first: 8, last: 9 }, -1);
-    check_claim(&rt, &Range { first: 0, last: 15 }, 2);
-    check_claim(&rt, &Range { first: 9, last: 8 }, -1020);
-    check_claim(&rt, &Range { first: 9, last: 16 }, -1020);
-    check_claim(&rt, &Cell { index: 9 }, -2);
-    check_claim(&rt, &Cell { index: 16 }, -1020);
-    check_claim(&rt, &Goods { kind: 0 }, 4);
-    check_claim(&rt, &Goods { kind: 1 }, -2);
-    check_claim(&rt, &Goods { kind: 7 }, 0);
-    check_claim(&rt, &Goods { kind: 8 }, -1020);
-    check_claim(&rt, &Season::Cell(Cell { index: 0 }), 3);
+fn true_counts(rt: HostRuntime) -> Result<(), Fail> {
+    check_claim(&rt, &Squares, Ok(14))?;
+    check_claim(&rt, &Range { first: 8, last: 9 }, Ok(-1))?;
+    check_claim(&rt, &Range { first: 0, last: 15 }, Ok(2))?;
+    check_claim(&rt, &Range { first: 9, last: 8 }, Err(20))?;
+    check_claim(&rt, &Range { first: 9, last: 16 }, Err(20))?;
+    check_claim(&rt, &Cell { index: 9 }, Ok(-2))?;
+    check_claim(&rt, &Cell { index: 16 }, Err(20))?;
+    check_claim(&rt, &Goods { kind: 0 }, Ok(4))?;
+    check_claim(&rt, &Goods { kind: 1 }, Ok(-2))?;
+    check_claim(&rt, &Goods { kind: 7 }, Ok(0))?;
+    check_claim(&rt, &Goods { kind: 8 }, Err(20))?;
+    check_claim(&rt, &Season::Cell(Cell { index: 0 }), Ok(3))
 }
 
 #[test]
-fn buffers_just_long_enough(rt: HostRuntime) {
+fn buffers_just_long_enough(rt: HostRuntime) -> Result<(), Fail> {
     let zero = Mod65537::zero();
-    assert_eq!(rt; claimed(&Squares, &mut [zero; 11], &mut [0; 9216]), 14);
-    assert_eq!(rt; claimed(&Squares, &mut [zero; 10], &mut [0; 9216]), -1021);
-    assert_eq!(rt; claimed(&Squares, &mut [zero; 11], &mut [0; 9215]), -1022);
+    check_room(&rt, &Squares, &mut [zero; 11], &mut [0; 9216], Ok(14))?;
+    check_room(&rt, &Squares, &mut [zero; 10], &mut [0; 9216], Err(21))?;
+    check_room(&rt, &Squares, &mut [zero; 11], &mut [0; 9215], Err(22))
 }
 
 // In the extension of 65,537 at t, the columns of the board are 3 − 2 t and −2 t.
 #[test]
 fn squares_rule_at_t(rt: HostRuntime) -> Result<(), Fail> {
-    let zero = <Extension<Mod65537> as Field>::zero();
-    let t = <Extension<Mod65537> as Field>::of_parts(0, 1);
-    let mut sums = [zero; 8];
+    let t: Extension<Mod65537> = Field::of_parts(0, 1);
+    let mut sums = [Field::zero(); 8];
     let mut sums = Bank::new(&mut sums);
-    let Ok(mut verifier) = verifier::Listening::<Extension<Mod65537>>::open(2, 8, t, &mut sums)
-    else {
+    let Ok(mut verifier) = verifier::Listening::open(2, 8, t, &mut sums) else {
         return Err(Fail::new("the box did not open"));
     };
-    for m in MOVES.iter() {
-        let _ = verifier.note(&mut sums, *m);
+    for m in MOVES {
+        let _ = verifier.note(&mut sums, m);
     }
     let grid = verifier.book().grid();
     let cells = sums.cells();
     assert!(rt; cells.len() == grid.columns() as usize);
-    let value = <Squares as Question<Extension<Mod65537>>>::rule(&Squares, grid, t, cells);
+    let value = Squares.rule(grid, t, cells);
     assert_eq!(rt; (value.low(), value.high()), (33, 65525));
     Ok(())
 }

@@ -5,3 +5,5 @@
 mod answers;
 #[cfg(test)]
 mod judgements;
+#[cfg(test)]
+mod moves;

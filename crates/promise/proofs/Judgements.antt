@@ -1,6 +1,6 @@
 -- What an accepted sheet passed, and that the honest sheet passes on every bank that begins with the columns of the counts. There is no run in it.
 -- Assumes nothing but the laws of the field and of the question.
-use Rattle.std.proofs.Common.{◌≡◌, ℕ, suc, ◌≤◌, Bool, true, false, cond, ◌&&◌, ltb, leb, List, length, take, ℤ, Ok, Err, Result, sym, refl, ap, ◌∙◌, subst, ap₂, true≢false, arith, le-ltb, lt-ltb, le-leb}
+use Rattle.std.proofs.Common.{◌≡◌, ℕ, suc, ◌≤◌, Bool, true, false, cond, ◌&&◌, ltb, leb, List, length, take, ℤ, Ok, Err, Result, refl, ap, ◌∙◌, subst, ap₂, arith, le-ltb, lt-ltb, le-leb}
 use Rattle.field.specs.Field.{FieldModel, LawfulField, InRange, same}
 use Rattle.field.proofs.Sameness.{same_true, same_eq}
 use Rattle.board.specs.declared.refusal.Refusal.{Refusal}
@@ -30,7 +30,7 @@ Given P (Err e) = Unit {0}
 -- a question whose test says that it fits does
 fit_true : (f : Fit) → is_fit f ≡ true → f ≡ fit.Fits
 fit_true fit.Fits e = refl
-fit_true fit.DoesNotFit e = absurd (true≢false (sym e))
+fit_true fit.DoesNotFit e = cc
 
 module _ {K : Type 0} {F : FieldModel K} (L : LawfulField F) where
   -- an accepted sheet: its question fits, it reads with the claim c, its values add up to c and agree with the columns cs at the point

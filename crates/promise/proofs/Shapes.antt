@@ -1,5 +1,6 @@
 -- Every list of requests of the form has exactly one run. Assumes nothing.
 use Rattle.std.proofs.Common.{◌≡◌, List, [], ◌∷◌, ◌++◌, map, Ok, Err, Result, sym, refl, ap, ◌∙◌, subst, ap₂, inl, inr}
+use Rattle.std.proofs.lemmas.List.{append-nil}
 use mathlib.Core.Option.{Option, some}
 use Rattle.polynomial.specs.Lists.{Each}
 use Rattle.board.specs.declared.game.Move.{Move}
@@ -31,12 +32,8 @@ module _ {O X Q A : Type 0} (E : End O X Q A) where
   shaped_granted : (o : O) → E.grant o ≡ Ok tt → (rs : List (Request O Q)) → Shaped E (listening (E.begin o)) rs → Shaped E closed (opening o ∷ rs)
   shaped_granted o e rs s = (tt, subst (λ t. Shaped E t rs) (sym (ap (λ a. begun E a o) e)) s)
 
-  append_nil : {B : Type 0} (bs : List B) → bs ++ [] ≡ bs
-  append_nil [] = refl
-  append_nil (b ∷ bs) = ap (◌∷◌ b) (append_nil bs)
-
   of_form : (rs : List (Request O Q)) → Form E rs → Shaped E closed rs
-  of_form _ (unopened os h) = subst (Shaped E closed) (append_nil (map opening os)) (shaped_opened os h [] tt)
+  of_form _ (unopened os h) = subst (Shaped E closed) (append-nil (map opening os)) (shaped_opened os h [] tt)
   of_form _ (unsealed os h o e ms) = shaped_opened os h _ (shaped_granted o e _ (shaped_noted (E.begin o) ms))
   of_form _ (complete os h o e ms qs) = shaped_opened os h _ (shaped_granted o e _ (shaped_sealed (E.begin o) ms qs))
 

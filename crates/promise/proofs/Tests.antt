@@ -1,5 +1,5 @@
 -- The test for false claims holds exactly of the false claims. Assumes nothing.
-use Rattle.std.proofs.Common.{◌≡◌, ℕ, ◌<◌, ◌≤◌, Bool, true, false, ◌&&◌, ltb, ◌≢◌, List, ℤ, ◌-ℤ◌, nat_abs, Ok, Err, Result, refl, ◌∙◌, ap₂, arith, ltb-false, ltb-true}
+use Rattle.std.proofs.Common.{◌≡◌, ℕ, ◌<◌, ◌≤◌, true, false, ◌&&◌, ltb, ◌≢◌, List, ℤ, ◌-ℤ◌, nat_abs, Ok, Err, Result, refl, ◌∙◌, ap₂, arith, ltb-false, ltb-true, lt-ltb}
 use borrow.Author.Tests.{clash}
 use Rattle.std.proofs.lemmas.Int.{ints}
 use Rattle.field.specs.Field.{FieldModel}
@@ -19,11 +19,7 @@ pub apart : (c t : ℤ) → ltb 0 (nat_abs (c -ℤ t)) ≡ true → c ≢ t
 apart c t e s = let z : 0 < nat_abs (c -ℤ t) = ltb-true _ _ e in absurd (omega (arith, ints, s))
 
 tests_apart : (c t : ℤ) → c ≢ t → ltb 0 (nat_abs (c -ℤ t)) ≡ true
-tests_apart c t n = go (ltb 0 (nat_abs (c -ℤ t))) refl
-  where
-    go : (b : Bool) → ltb 0 (nat_abs (c -ℤ t)) ≡ b → b ≡ true
-    go true e = refl
-    go false e = absurd (n (not_apart c t e))
+tests_apart c t n = lt-ltb 0 (nat_abs (c -ℤ t)) (omega (arith, ints))
 
 module _ {K : Type 0} (F : FieldModel K) (h v : ℕ) (ms : List Move) (e : Entry K) where
   pub false_claim : claims_falsely F h v ms e ≡ true → FalseClaim F h v ms e

@@ -9,57 +9,41 @@ ghost use Rattle.promise.specs.WorkedBoard.{BoundReached};
 use field::Field;
 
 // Honest sheets are accepted at every point, false claims at few, and both ends keep to the ledger.
-pub fn the_whole_promise<F: Field>() -> u8
+pub fn the_whole_promise<F: Field>()
     ensures { Promised F.Field.model }
-{
-    0
-}
+{}
 
 // Honest values pass at every point; values that add up to a false claim are unlike them, and such values pass at no more points than the degree.
-pub fn values_against_counts<F: Field>() -> u8
+pub fn values_against_counts<F: Field>()
     ensures { ValuesAgainstCounts F.Field.model }
-{
-    0
-}
+{}
 
 // Every list of requests of the form has exactly one run, and no other list has any.
-pub fn every_list_has_one_run<F: Field>() -> u8
+pub fn every_list_has_one_run<F: Field>()
     ensures { EveryListRuns F.Field.model }
-{
-    0
-}
+{}
 
 // On every allowed grid, for all moves and at every point, both ends have a run that ends sealed.
-pub fn sealed_runs_exist<F: Field>() -> u8
+pub fn sealed_runs_exist<F: Field>()
     ensures { SealedRuns F.Field.model }
-{
-    0
-}
+{}
 
 // Whether a box is opened does not depend on its point.
-pub fn grant_independent_of_point<F: Field>() -> u8
+pub fn grant_independent_of_point<F: Field>()
     ensures { GrantedAnywhere F.Field.model }
-{
-    0
-}
+{}
 
 // The sheets that the bound counts are those with a false claim.
-pub fn false_claims_are_tested<F: Field>() -> u8
+pub fn false_claims_are_tested<F: Field>()
     ensures { TestsFalseClaims F.Field.model }
-{
-    0
-}
+{}
 
 // On one row no false claim is accepted at any point.
-pub fn no_false_claim_on_one_row<F: Field>() -> u8
+pub fn no_false_claim_on_one_row<F: Field>()
     ensures { NoneOnOneRow F.Field.model }
-{
-    0
-}
+{}
 
 // On a worked board the bound is reached: a sheet with a false claim and the bound 2 is accepted at two points.
-pub fn bound_is_reached() -> u8
+pub fn bound_is_reached()
     ensures { BoundReached }
-{
-    0
-}
+{}

@@ -1,5 +1,6 @@
 -- A question about any cells of the grid, none twice, is lawful: so is one cell, and so is a range. Assumes nothing but the laws of the field.
 use Rattle.std.proofs.Common.{◌≡◌, ℕ, zero, suc, ◌+◌, ◌-◌, ◌*◌, ◌/◌, ◌%◌, ◌<◌, ◌≤◌, ltb, leb, ◌≢◌, List, [], ◌∷◌, map, length, get_or, set, ℤ, pos, nat_abs, sym, refl, ap, ◌∙◌, ap₂, mod-lt, div-add-mod', arith, get_or-set_other, ltb-true, leb-true}
+use Rattle.std.proofs.lemmas.Bool.{and_parts}
 use lib.ListN.{get_or-map}
 use Rattle.field.specs.Field.{FieldModel, LawfulField}
 use Rattle.field.proofs.Solver.{zero-mul, one-mul}
@@ -19,7 +20,7 @@ use Rattle.question.specs.declared.outcome.Fit.TheVariants as fit
 use Rattle.board.specs.declared.tag.Tag.{Tag}
 use Rattle.question.specs.Question.{SmallTag, LawfulQuestion}
 use Rattle.question.specs.Cells.{cells_tally, cells_rule, cells_question, cell_question, cells_between, range_question}
-use Rattle.question.proofs.Grids.{AllowedGrid, allowed_grid, both_true, test_holds, row_below}
+use Rattle.question.proofs.Grids.{AllowedGrid, allowed_grid, test_holds, row_below}
 use Rattle.question.proofs.Bounds.{abs_least, abs_most, narrow_limit, limit_range, neg_limit_range}
 
 -- ---- the counts at some cells
@@ -127,5 +128,5 @@ module _ {K : Type 0} {F : FieldModel K} (L : LawfulField F) where
   range_lawful a b p q =
       cells_lawful _ (omega arith) _ (cells_between a b) (distinct_range a (suc b - a))
       (λ h v e.
-      let t = both_true (leb a b) (ltb b (h * v)) (test_holds _ e) in
+      let t = and_parts (leb a b) (ltb b (h * v)) (test_holds _ e) in
       range_below a (suc b - a) (h * v) (omega (arith, leb-true a b t.0, ltb-true b (h * v) t.1)))

@@ -1,4 +1,3 @@
-pub mod Tallies
-pub mod Rules
+pub mod Sums
 pub mod Ranges
 pub mod MixtureLaw

@@ -1,5 +1,7 @@
 -- A range of cells, row by row: its rule by the sums of columns, and its tally by the counts in a row. Assumes nothing but the laws of the field.
-use Rattle.std.proofs.Common.{◌≡◌, ℕ, zero, suc, ◌+◌, ◌-◌, ◌*◌, ◌/◌, ◌%◌, ◌<◌, ◌≤◌, List, [], ◌∷◌, length, get_or, take, drop, ℤ, pos, ◌+ℤ◌, sym, refl, ap, ◌∙◌, ap₂, mod-lt, div-add-mod', arith, take_all}
+use Rattle.std.proofs.Common.{◌≡◌, ℕ, zero, suc, ◌+◌, ◌-◌, ◌*◌, ◌/◌, ◌%◌, ◌<◌, ◌≤◌, List, length, get_or, take, drop, drop-cons, fold, ℤ, pos, ◌+ℤ◌, sym, refl, ap, ◌∙◌, ap₂, mod-lt, div-add-mod', arith, take_all}
+use lib.IntN.{+ℤ_assoc}
+use Rattle.std.proofs.lemmas.Int.{ints}
 use lib.Arith.{digits_div, digits_mod}
 use Rattle.field.specs.Field.{FieldModel, LawfulField}
 use Rattle.field.proofs.Solver.{mul-zero}
@@ -8,18 +10,16 @@ use Rattle.polynomial.specs.Sums.{sum_from, list_sum}
 use Rattle.polynomial.specs.Interpolation.{chi}
 use Rattle.polynomial.proofs.Sums.{sum_cong, sum_split, sum_shift, sum_rows}
 use Rattle.question.specs.Cells.{cells_tally, cells_rule, cells_between}
-use Rattle.season.specs.Counts.{counts_sum}
 
--- the counts at n cells from cell a on
-pub range_tally : (a n : ℕ) (fs : List ℤ) → a + n ≤ length fs → cells_tally (listed a n (λ i. i)) fs ≡ counts_sum (take n (drop a fs))
-range_tally a zero fs h = refl
-range_tally a (suc n) fs h =
-    ap (λ z. get_or fs a (pos 0) +ℤ z) (range_tally (suc a) n fs (omega arith)) ∙ sym (front a fs (omega arith))
-  where
-    front : (a : ℕ) (fs : List ℤ) → a < length fs → counts_sum (take (suc n) (drop a fs)) ≡ get_or fs a (pos 0) +ℤ counts_sum (take n (drop (suc a) fs))
-    front a [] b = absurd (omega arith)
-    front zero (f ∷ fs) b = refl
-    front (suc a) (f ∷ fs) b = front a fs (omega arith)
+-- the counts at n cells from cell a on, added to z
+range_onto : (z : ℤ) (a n : ℕ) (fs : List ℤ) → a + n ≤ length fs → fold ◌+ℤ◌ z (take n (drop a fs)) ≡ z +ℤ cells_tally (listed a n (λ i. i)) fs
+range_onto z a zero fs h = omega (arith, ints)
+range_onto z a (suc n) fs h =
+    let f = get_or fs a (pos 0) in
+    rw (drop-cons fs a (pos 0) (omega arith)) (range_onto (z +ℤ f) (suc a) n fs (omega arith) ∙ +ℤ_assoc z f (cells_tally (listed (suc a) n (λ i. i)) fs))
+
+pub range_tally : (a n : ℕ) (fs : List ℤ) → a + n ≤ length fs → fold ◌+ℤ◌ (pos 0) (take n (drop a fs)) ≡ cells_tally (listed a n (λ i. i)) fs
+range_tally a n fs h = range_onto (pos 0) a n fs h ∙ omega (arith, ints)
 
 module _ {K : Type 0} {F : FieldModel K} (L : LawfulField F) where
   -- ---- sums with a common factor
@@ -33,18 +33,7 @@ module _ {K : Type 0} {F : FieldModel K} (L : LawfulField F) where
   -- m elements from place y on
   places_sum : (y m : ℕ) (cs : List K) → y + m ≤ length cs → sum_from F y m (λ k. get_or cs k F.zero) ≡ list_sum F (take m (drop y cs))
   places_sum y zero cs h = refl
-  places_sum y (suc m) cs h = ap (F.add (get_or cs y F.zero)) (places_sum (suc y) m cs (omega arith)) ∙ sym (front y cs (omega arith))
-    where
-      front : (y : ℕ) (cs : List K) → y < length cs → list_sum F (take (suc m) (drop y cs)) ≡ F.add (get_or cs y F.zero) (list_sum F (take m (drop (suc y) cs)))
-      front y [] b = absurd (omega arith)
-      front zero (c ∷ cs) b = refl
-      front (suc y) (c ∷ cs) b = front y cs (omega arith)
-
-  -- one summand more at the end
-  pub sum_more : (j n : ℕ) (f : ℕ → K) → sum_from F j (suc n) f ≡ F.add (sum_from F j n f) (f (j + n))
-  sum_more j n f =
-      let e : suc n ≡ n + 1 = omega arith in
-      ap (λ k. sum_from F j k f) e ∙ sum_split L j n 1 f ∙ ap (F.add (sum_from F j n f)) (L.ring.add-zero (f (j + n)))
+  places_sum y (suc m) cs h = rw (drop-cons cs y F.zero (omega arith)) (ap (F.add (get_or cs y F.zero)) (places_sum (suc y) m cs (omega arith)))
 
   module _ (h v : ℕ) (X : K) (cs : List K) (wide : length cs ≡ v) where
     -- what a cell adds

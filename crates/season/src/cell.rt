@@ -1,7 +1,7 @@
 // The count at one cell.
 ghost use Rattle.question.specs.Cells.{cell_question};
 
-use crate::claims::{fit_if, greatest_count, least_count, product_degree};
+use crate::fits::fit_if;
 use board::Grid;
 use field::Field;
 use polynomial::basis_at;
@@ -20,15 +20,15 @@ impl<F: Field> Question<F> for Cell {
     }
 
     fn degree(&self, grid: Grid) -> u32 {
-        product_degree(grid)
+        2 * (grid.rows() - 1)
     }
 
     fn least(&self) -> i64 {
-        least_count::<F>()
+        -i64::from(F::limit())
     }
 
     fn greatest(&self) -> i64 {
-        greatest_count::<F>()
+        i64::from(F::limit())
     }
 
     fn tag(&self) -> Tag {

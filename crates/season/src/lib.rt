@@ -2,7 +2,7 @@
 #![tactic(auto)]
 
 mod cell;
-mod claims;
+mod fits;
 mod goods;
 mod mixture;
 mod range;

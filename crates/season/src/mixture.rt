@@ -17,69 +17,46 @@ pub enum Season {
     Squares(Squares),
 }
 
+// What the question that is held answers.
+macro_rules! held {
+    ($season:expr, $question:ident => $answer:expr) => {
+        match $season {
+            Season::Cell($question) => $answer,
+            Season::Goods($question) => $answer,
+            Season::Range($question) => $answer,
+            Season::Squares($question) => $answer,
+        }
+    };
+}
+
 impl<F: Field> Question<F> for Season {
     ghost meaning = { λ q. season_question F.Field.model q };
 
     fn fit(&self, grid: Grid) -> Fit {
-        match self {
-            Season::Cell(q) => <Cell as Question<F>>::fit(q, grid),
-            Season::Goods(q) => <Goods as Question<F>>::fit(q, grid),
-            Season::Range(q) => <Range as Question<F>>::fit(q, grid),
-            Season::Squares(q) => <Squares as Question<F>>::fit(q, grid),
-        }
+        held!(self, question => Question::<F>::fit(question, grid))
     }
 
     fn degree(&self, grid: Grid) -> u32 {
-        match self {
-            Season::Cell(q) => <Cell as Question<F>>::degree(q, grid),
-            Season::Goods(q) => <Goods as Question<F>>::degree(q, grid),
-            Season::Range(q) => <Range as Question<F>>::degree(q, grid),
-            Season::Squares(q) => <Squares as Question<F>>::degree(q, grid),
-        }
+        held!(self, question => Question::<F>::degree(question, grid))
     }
 
     fn least(&self) -> i64 {
-        match self {
-            Season::Cell(q) => <Cell as Question<F>>::least(q),
-            Season::Goods(q) => <Goods as Question<F>>::least(q),
-            Season::Range(q) => <Range as Question<F>>::least(q),
-            Season::Squares(q) => <Squares as Question<F>>::least(q),
-        }
+        held!(self, question => Question::<F>::least(question))
     }
 
     fn greatest(&self) -> i64 {
-        match self {
-            Season::Cell(q) => <Cell as Question<F>>::greatest(q),
-            Season::Goods(q) => <Goods as Question<F>>::greatest(q),
-            Season::Range(q) => <Range as Question<F>>::greatest(q),
-            Season::Squares(q) => <Squares as Question<F>>::greatest(q),
-        }
+        held!(self, question => Question::<F>::greatest(question))
     }
 
     fn tag(&self) -> Tag {
-        match self {
-            Season::Cell(q) => <Cell as Question<F>>::tag(q),
-            Season::Goods(q) => <Goods as Question<F>>::tag(q),
-            Season::Range(q) => <Range as Question<F>>::tag(q),
-            Season::Squares(q) => <Squares as Question<F>>::tag(q),
-        }
+        held!(self, question => Question::<F>::tag(question))
     }
 
     fn tally(&self, grid: Grid, counts: &[i32]) -> i64 {
-        match self {
-            Season::Cell(q) => <Cell as Question<F>>::tally(q, grid, counts),
-            Season::Goods(q) => <Goods as Question<F>>::tally(q, grid, counts),
-            Season::Range(q) => <Range as Question<F>>::tally(q, grid, counts),
-            Season::Squares(q) => <Squares as Question<F>>::tally(q, grid, counts),
-        }
+        held!(self, question => Question::<F>::tally(question, grid, counts))
     }
 
     fn rule(&self, grid: Grid, point: F, columns: &[F]) -> F {
-        match self {
-            Season::Cell(q) => q.rule(grid, point, columns),
-            Season::Goods(q) => q.rule(grid, point, columns),
-            Season::Range(q) => q.rule(grid, point, columns),
-            Season::Squares(q) => q.rule(grid, point, columns),
-        }
+        held!(self, question => question.rule(grid, point, columns))
     }
 }

@@ -1,12 +1,10 @@
 // The counts from one cell to another, added.
 ghost use Rattle.std.specs.Prelude.{◌≡◌, ◌-◌, ◌*◌, ◌<◌, ◌≤◌, length};
-ghost use Rattle.board.specs.Ledger.{abs_sum};
 ghost use Rattle.polynomial.specs.Interpolation.{chi};
 ghost use Rattle.polynomial.specs.Sums.{sum_from};
 ghost use Rattle.question.specs.Cells.{cells_between, cells_rule, range_question};
-ghost use Rattle.season.specs.Counts.{counts_sum};
 
-use crate::claims::{fit_if, greatest_count, least_count, product_degree};
+use crate::fits::fit_if;
 use board::Grid;
 use field::Field;
 use polynomial::{basis_at, total};
@@ -18,18 +16,6 @@ pub struct Range {
     pub last: u32,
 }
 
-// The counts, added.
-fn count_total(counts: &[i32]) -> i64
-    requires { abs_sum counts.now ≤ 46340 }
-    ensures { result ≡ counts_sum counts.now }
-{
-    let mut all = 0i64;
-    for count in counts {
-        all += i64::from(*count);
-    }
-    all
-}
-
 // χ_x at the point for the rows x from one row to another, the end left out, added.
 fn basis_total<F: Field>(rows: u32, start: u32, end: u32, point: F) -> F
     requires few { rows ≤ 64 }
@@ -37,11 +23,7 @@ fn basis_total<F: Field>(rows: u32, start: u32, end: u32, point: F) -> F
     requires inside { end ≤ rows }
     ensures { result ≡ sum_from F.Field.model start (end - start) (λ x. chi F.Field.model rows x point) }
 {
-    let mut all = F::zero();
-    for x in start..end {
-        all = all.sum(basis_at(rows, x, point));
-    }
-    all
+    (start..end).fold(F::zero(), |all, x| all.sum(basis_at(rows, x, point)))
 }
 
 // The rule on the cells from first to last: the first and the last row in part, and the rows between them at once.
@@ -60,9 +42,9 @@ fn rows_rule<F: Field>(grid: Grid, first: u64, last: u64, point: F, columns: &[F
     if x == last_x {
         return top.product(total(&columns[y..end]));
     }
-    let head = top.product(total(&columns[y..columns.len()]));
+    let head = top.product(total(&columns[y..]));
     let body = basis_total(rows, x + 1, last_x, point).product(total(columns));
-    let tail = basis_at(rows, last_x, point).product(total(&columns[0..end]));
+    let tail = basis_at(rows, last_x, point).product(total(&columns[..end]));
     head.sum(body.sum(tail))
 }
 
@@ -74,15 +56,15 @@ impl<F: Field> Question<F> for Range {
     }
 
     fn degree(&self, grid: Grid) -> u32 {
-        product_degree(grid)
+        2 * (grid.rows() - 1)
     }
 
     fn least(&self) -> i64 {
-        least_count::<F>()
+        -i64::from(F::limit())
     }
 
     fn greatest(&self) -> i64 {
-        greatest_count::<F>()
+        i64::from(F::limit())
     }
 
     fn tag(&self) -> Tag {
@@ -96,7 +78,10 @@ impl<F: Field> Question<F> for Range {
     fn tally(&self, _grid: Grid, counts: &[i32]) -> i64 {
         let start = self.first as usize;
         let end = self.last as usize + 1;
-        count_total(&counts[start..end])
+        counts[start..end]
+            .iter()
+            .map(|count| i64::from(*count))
+            .sum()
     }
 
     fn rule(&self, grid: Grid, point: F, columns: &[F]) -> F {

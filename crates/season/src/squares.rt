@@ -1,9 +1,8 @@
 // The squares of all counts, added.
-ghost use Rattle.std.specs.Prelude.{◌≡◌, ◌*◌, ◌≤◌, pos, ◌*ℤ◌};
-ghost use Rattle.board.specs.Ledger.{abs_sum};
-ghost use Rattle.question.specs.SquareSums.{squares_tally, squares_rule, squares_question};
+ghost use Rattle.std.specs.Prelude.{◌≡◌, ◌*ℤ◌};
+ghost use Rattle.question.specs.SquareSums.{squares_question};
 
-use crate::claims::{fit_if, product_degree};
+use crate::fits::fit_if;
 use board::Grid;
 use field::Field;
 use question::{Fit, Question, Tag};
@@ -19,37 +18,6 @@ fn square(count: i32) -> i64
     wide * wide
 }
 
-// The squares of the counts, added.
-fn square_count(counts: &[i32]) -> i64
-    requires { abs_sum counts.now ≤ 46340 }
-    ensures { result ≡ squares_tally counts.now }
-{
-    let mut all = 0i64;
-    for count in counts {
-        all += square(*count);
-    }
-    all
-}
-
-// The squares of the columns, added.
-fn square_columns<F: Field>(columns: &[F]) -> F
-    ensures { result ≡ squares_rule F.Field.model columns.now }
-{
-    let mut all = F::zero();
-    for column in columns {
-        all = all.sum(column.product(*column));
-    }
-    all
-}
-
-// W × W.
-fn greatest_square<F: Field>() -> i64
-    ensures { result ≡ pos (F.Field.model.limit * F.Field.model.limit) }
-{
-    let limit = i64::from(F::limit());
-    limit * limit
-}
-
 impl<F: Field> Question<F> for Squares {
     ghost meaning = { λ q. squares_question F.Field.model };
 
@@ -58,7 +26,7 @@ impl<F: Field> Question<F> for Squares {
     }
 
     fn degree(&self, grid: Grid) -> u32 {
-        product_degree(grid)
+        2 * (grid.rows() - 1)
     }
 
     fn least(&self) -> i64 {
@@ -66,7 +34,8 @@ impl<F: Field> Question<F> for Squares {
     }
 
     fn greatest(&self) -> i64 {
-        greatest_square::<F>()
+        let limit = i64::from(F::limit());
+        limit * limit
     }
 
     fn tag(&self) -> Tag {
@@ -78,10 +47,12 @@ impl<F: Field> Question<F> for Squares {
     }
 
     fn tally(&self, _grid: Grid, counts: &[i32]) -> i64 {
-        square_count(counts)
+        counts.iter().map(|count| square(*count)).sum()
     }
 
     fn rule(&self, _grid: Grid, _point: F, columns: &[F]) -> F {
-        square_columns(columns)
+        columns
+            .iter()
+            .fold(F::zero(), |all, column| all.sum(column.product(*column)))
     }
 }

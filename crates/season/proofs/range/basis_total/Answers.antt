@@ -1,19 +1,18 @@
-use Rattle.std.proofs.Common.{◌≡◌, suc, ◌+◌, ◌-◌, ap, arith}
+use Rattle.std.proofs.Common.{◌≡◌, ℕ, ◌-◌, fold, rules, refl, ap, ◌∙◌}
+use Rattle.std.specs.List.{range_with_len}
+use Rattle.std.proofs.lemmas.Iterator.{YieldsList-from_range}
+use Rattle.std.proofs.lemmas.Iterator.Consumers.{fold_from_yields_List}
 use Rattle.polynomial.specs.Interpolation.{chi}
 use Rattle.polynomial.specs.Sums.{sum_from}
-use Rattle.season.proofs.Ranges.{sum_more}
+use Rattle.season.proofs.Sums.{Sum-field, each_number}
 use Rattle.season.proofs.range.basis_total.Goals as goal
 
-pub loop-x-preserved : goal.loop-x-preserved
-loop-x-preserved g c =
+pub returns : goal.returns
+returns g c =
     let F = g.F.Field.model in
-    let j = c.args.start in
-    let x = c.loop-x.x in
-    let from = c.loop-x.auto.x in
-    let so_far = c.loop-x.invariant in
-    let s : x + 1 - j ≡ suc (x - j) = omega arith in
-    let t : j + (x - j) ≡ x = omega arith in
-    let size = ap (λ n. sum_from F j n (λ k. chi F c.args.rows k c.args.point)) s in
-    let more = sum_more g.met.F.Field.lawful j (x - j) (λ k. chi F c.args.rows k c.args.point) in
-    let last = ap (λ k. chi F c.args.rows k c.args.point) t in
-    cc
+    let start = c.args.start in
+    let number = c.args.end - start in
+    let term = λ (x : ℕ). chi F c.args.rows x c.args.point in
+    let chain : c.fold.result ≡ fold (λ s x. F.add s (term x)) c.zero.result (range_with_len start number) =
+    fold_from_yields_List _ _ _ _ c.fold.ensures.ran (YieldsList-from_range start _ number refl refl) (λ a x b q k. search rules) in
+    chain ∙ ap (λ z. fold (λ s x. F.add s (term x)) z (range_with_len start number)) c.zero.ensures ∙ each_number (Sum-field g.met.F.Field.lawful) term (λ j n. sum_from F j n term) (λ _. refl) (λ _ _. refl) start number

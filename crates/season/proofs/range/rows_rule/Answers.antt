@@ -1,15 +1,9 @@
 use Rattle.std.proofs.Common.{◌≡◌, ◌+◌, ◌-◌, ◌/◌, ◌%◌, ◌<◌, take, drop, sym, ◌∙◌, ap₂, arith}
-use native.Mathlib.Nat.{sub-zero}
 use Rattle.polynomial.specs.Sums.{sum_from, list_sum}
 use Rattle.polynomial.specs.Interpolation.{chi}
-use Rattle.question.proofs.Grids.{row_below, row_order}
+use Rattle.question.proofs.Grids.{row_order}
 use Rattle.season.proofs.Ranges.{in_one_row, in_several_rows}
 use Rattle.season.proofs.range.rows_rule.Goals as goal
-
-pub basis_at-top-requires : goal.basis_at-top-requires
-basis_at-top-requires g c =
-    let b = row_below c.args.grid.rows c.args.grid.columns c.args.first (omega arith) (omega arith) in
-    record { few = omega arith; inside = omega arith }
 
 pub returns-then-x-last_x : goal.returns-then-x-last_x
 returns-then-x-last_x g c =
@@ -24,18 +18,6 @@ returns-then-x-last_x g c =
     let top : c.basis_at-top.result ≡ chi F h (a / v) X = c.basis_at-top.ensures ∙ ap₂ (λ r k. chi F r k X) c.rows-rows.ensures c.row_of-x.ensures in
     let part : c.total.result ≡ list_sum F (take (b % v + 1 - a % v) (drop (a % v) cs)) = c.total.ensures ∙ simp (c.column_of.ensures, c.column_of-y.ensures) in
     c.product.ensures ∙ ap₂ F.mul top part ∙ sym (in_one_row g.met.F.Field.lawful h v X cs c.requires.wide a b (omega arith) c.requires.ordered same)
-
-pub basis_total-requires : goal.basis_total-requires
-basis_total-requires g c =
-    let v = c.args.grid.columns in
-    let above = row_order v c.args.first c.args.last (omega arith) c.requires.ordered in
-    let b = row_below c.args.grid.rows v c.args.last (omega arith) (omega arith) in
-    record { few = omega arith; ordered = omega arith; inside = omega arith }
-
-pub basis_at-requires : goal.basis_at-requires
-basis_at-requires g c =
-    let b = row_below c.args.grid.rows c.args.grid.columns c.args.last (omega arith) (omega arith) in
-    record { few = omega arith; inside = omega arith }
 
 pub returns : goal.returns
 returns g c =
@@ -52,7 +34,7 @@ returns g c =
     let first : c.total-2.result ≡ list_sum F (take (v - a % v) (drop (a % v) cs)) = c.total-2.ensures ∙ simp (c.column_of-y.ensures, c.requires.wide) in
     let between : c.basis_total.result ≡ sum_from F (a / v + 1) (b / v - (a / v + 1)) (λ k. chi F h k X) = c.basis_total.ensures ∙ simp (c.rows-rows.ensures, c.row_of-x.ensures, c.row_of-last_x.ensures) in
     let bottom : c.basis_at.result ≡ chi F h (b / v) X = c.basis_at.ensures ∙ ap₂ (λ r k. chi F r k X) c.rows-rows.ensures c.row_of-last_x.ensures in
-    let last : c.total-4.result ≡ list_sum F (take (b % v + 1) cs) = c.total-4.ensures ∙ simp (c.column_of.ensures, sub-zero) in
+    let last : c.total-4.result ≡ list_sum F (take (b % v + 1) cs) = c.total-4.ensures ∙ simp c.column_of.ensures in
     let head = c.product-head.ensures ∙ ap₂ F.mul top first in
     let body = c.product-body.ensures ∙ ap₂ F.mul between c.total-3.ensures in
     let tail = c.product-tail.ensures ∙ ap₂ F.mul bottom last in

@@ -1,17 +1,21 @@
-use Rattle.std.proofs.Common.{◌≡◌, suc, ◌+◌, ◌-◌, ◌*◌, ltb, leb, take, drop, sym, ap, ◌∙◌, arith, w64, SFits, rules, ltb-true, leb-true}
+use Rattle.std.proofs.Common.{◌≡◌, suc, ◌+◌, ◌-◌, ◌*◌, ◌+ℤ◌, pos, ltb, leb, take, drop, map, map-id, fold, ap, ◌∙◌, arith, w64, SFits, rules, ltb-true, leb-true}
 use Rattle.std.proofs.lemmas.Int.{to_z-of_z}
+use Rattle.std.proofs.lemmas.Iterator.{YieldsList-from_slice, YieldsList-from_map}
+use Rattle.std.proofs.lemmas.Iterator.Adapters.{total_from_yields_List}
+use Rattle.std.proofs.lemmas.Bool.{and_parts}
 use Rattle.field.proofs.Consequences.{limit_small}
-use Rattle.season.specs.Counts.{counts_sum}
-use Rattle.question.proofs.Grids.{test_holds, both_true}
-use Rattle.season.proofs.Tallies.{abs-take, abs-drop}
+use Rattle.question.proofs.Grids.{test_holds}
+use Rattle.season.proofs.Sums.{sum_fits, abs-take-drop}
 use Rattle.season.proofs.Ranges.{range_tally}
 use Rattle.season.proofs.range.RangeQuestion.tally.Goals as goal
 
-pub count_total-requires : goal.count_total-requires
-count_total-requires g c =
+pub sum-requires-clause-fits : goal.sum-requires-clause-fits
+sum-requires-clause-fits g c =
     let q = c.args.self.now in
     let fs = c.args.counts.now in
-    omega (arith, abs-take (q.last + 1 - q.first) (drop q.first fs), abs-drop q.first fs, c.requires.within.light, limit_small g.met.F.Field.lawful)
+    let part = take (q.last + 1 - q.first) (drop q.first fs) in
+    sum_fits _ (YieldsList-from_map _ (λ f. f) (YieldsList-from_slice part cc) c.map.ensures.closure (λ x r q k. search rules))
+    (rw map-id (omega (arith, abs-take-drop (q.last + 1 - q.first) (drop q.first fs), abs-take-drop q.first fs, c.requires.within.light, limit_small g.met.F.Field.lawful)))
 
 pub returns : goal.returns
 returns g c =
@@ -19,10 +23,12 @@ returns g c =
     let fs = c.args.counts.now in
     let h = c.args._grid.rows in
     let v = c.args._grid.columns in
-    let t = both_true (leb q.first q.last) (ltb q.last (h * v)) (test_holds _ c.requires.fitting) in
+    let t = and_parts (leb q.first q.last) (ltb q.last (h * v)) (test_holds _ c.requires.fitting) in
     let order = leb-true q.first q.last t.0 in
     let inside = ltb-true q.last (h * v) t.1 in
+    let part = take (q.last + 1 - q.first) (drop q.first fs) in
     let n : q.last + 1 - q.first ≡ suc q.last - q.first = omega arith in
-    let f : SFits w64 c.count_total.result = search rules in
-    to_z-of_z w64 _ f ∙ c.count_total.ensures ∙ ap (λ k. counts_sum (take k (drop q.first fs))) n
-    ∙ sym (range_tally q.first (suc q.last - q.first) fs (omega (arith, c.requires.within.size)))
+    let f : SFits w64 c.sum.result = search rules in
+    let chain : c.sum.result ≡ fold ◌+ℤ◌ (pos 0) (map (λ f. f) part) =
+    total_from_yields_List ◌+ℤ◌ (pos 0) _ c.sum.ensures.ran (YieldsList-from_map _ (λ f. f) (YieldsList-from_slice part cc) c.map.ensures.closure (λ x r q k. search rules)) in
+    to_z-of_z w64 _ f ∙ chain ∙ ap (fold ◌+ℤ◌ (pos 0)) (map-id part ∙ ap (λ k. take k (drop q.first fs)) n) ∙ range_tally q.first (suc q.last - q.first) fs (omega (arith, c.requires.within.size))
