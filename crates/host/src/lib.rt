@@ -14,8 +14,6 @@ mod values;
 pub use end::{Listening, Sealed};
 
 // Told any moves after a granted open, a host answers and stands as a ledger fed those moves.
-pub fn host_keeps_ledger() -> u8
+pub fn host_keeps_ledger()
     ensures { HostKeepsLedger }
-{
-    0
-}
+{}

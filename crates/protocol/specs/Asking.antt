@@ -31,7 +31,7 @@ module _ {K : Type 0} (q : QuestionModel K) (h v : ℕ) where
   terms_of = record {
     rows = h;
     columns = v;
-    tag = (q.tag.kind, q.tag.first, q.tag.second);
+    tag = q.tag;
     least = q.least;
     greatest = q.greatest;
     degree = q.degree h;

@@ -11,11 +11,10 @@ use sheet::Terms;
 pub fn terms_of<F: Field, Q: Question<F>>(question: &Q, grid: Grid) -> Terms
     ensures { result ≡ terms_of (Q.Question.meaning question.now) grid.rows grid.columns }
 {
-    let tag = question.tag();
     Terms {
         rows: grid.rows(),
         columns: grid.columns(),
-        tag: (tag.kind, tag.first, tag.second),
+        tag: question.tag(),
         least: question.least(),
         greatest: question.greatest(),
         degree: question.degree(grid),

@@ -14,8 +14,6 @@ mod weighing;
 pub use end::{Listening, Sealed};
 
 // Told any moves after a granted open, a box answers and stands as a ledger fed those moves, and its bank is the columns of the ledger's counts.
-pub fn verifier_keeps_ledger<F: Field>() -> u8
+pub fn verifier_keeps_ledger<F: Field>()
     ensures { VerifierKeepsLedger F.Field.model }
-{
-    0
-}
+{}

@@ -35,11 +35,11 @@ pub(crate) fn weigh<F: Field, Q: Question<F>>(
 {
     let grid = asked.grid;
     let sum = sum_of_first(values, grid.rows() as usize);
-    if !sum.is_same(claim_image::<F>(claim)) {
+    if sum != claim_image::<F>(claim) {
         return Err(Refusal::SumWrong);
     }
     let value = interpolate_at(values, point);
-    if !value.is_same(asked.question.rule(grid, point, columns)) {
+    if value != asked.question.rule(grid, point, columns) {
         return Err(Refusal::PointWrong);
     }
     Ok(claim)
