@@ -91,103 +91,40 @@ fn worked_sheets_over_other_fields(rt: HostRuntime) -> Result<(), Fail> {
     let zero = Mersenne31::zero();
     let five = Mersenne31::image(5);
     let two = Mersenne31::image(2);
-    check_judged(
-        &rt,
-        2,
-        five,
-        MERSENNE_TRUE,
-        &mut [zero; 8],
-        &mut [zero; 3],
-        Ok(14),
-    )?;
-    check_judged(
-        &rt,
-        2,
-        two,
-        MERSENNE_FALSE,
-        &mut [zero; 8],
-        &mut [zero; 3],
-        Ok(13),
-    )?;
-    check_judged(
-        &rt,
-        2,
-        five,
-        MERSENNE_FALSE,
-        &mut [zero; 8],
-        &mut [zero; 3],
-        Err(51),
-    )?;
+    let cases = [
+        (five, MERSENNE_TRUE, Ok(14)),
+        (two, MERSENNE_FALSE, Ok(13)),
+        (five, MERSENNE_FALSE, Err(51)),
+    ];
+    for (point, sheet, found) in cases {
+        check_judged(&rt, 2, point, sheet, &mut [zero; 8], &mut [zero; 3], found)?;
+    }
     let zero: Extension<Mod65537> = Field::zero();
     let t: Extension<Mod65537> = Field::of_parts(0, 1);
-    check_judged(
-        &rt,
-        2,
-        t,
-        EXTENSION_TRUE,
-        &mut [zero; 8],
-        &mut [zero; 3],
-        Ok(14),
-    )?;
-    check_judged(
-        &rt,
-        2,
-        t,
-        EXTENSION_FALSE,
-        &mut [zero; 8],
-        &mut [zero; 3],
-        Err(51),
-    )?;
-    check_judged(
-        &rt,
-        2,
-        zero,
-        EXTENSION_FALSE,
-        &mut [zero; 8],
-        &mut [zero; 3],
-        Ok(13),
-    )
+    let cases = [
+        (t, EXTENSION_TRUE, Ok(14)),
+        (t, EXTENSION_FALSE, Err(51)),
+        (zero, EXTENSION_FALSE, Ok(13)),
+    ];
+    for (point, sheet, found) in cases {
+        check_judged(&rt, 2, point, sheet, &mut [zero; 8], &mut [zero; 3], found)?;
+    }
+    Ok(())
 }
 
 #[test]
 fn one_row_and_short_trays(rt: HostRuntime) -> Result<(), Fail> {
     let zero = Mod65537::zero();
     let five = Mod65537::image(5);
-    check_judged(
-        &rt,
-        1,
-        five,
-        ONE_ROW_TRUE,
-        &mut [zero; 8],
-        &mut [zero; 1],
-        Ok(9),
-    )?;
-    check_judged(
-        &rt,
-        1,
-        zero,
-        ONE_ROW_FALSE,
-        &mut [zero; 8],
-        &mut [zero; 1],
-        Err(51),
-    )?;
-    check_judged(
-        &rt,
-        1,
-        five,
-        ONE_ROW_FALSE,
-        &mut [zero; 8],
-        &mut [zero; 1],
-        Err(51),
-    )?;
-    check_judged(
-        &rt,
-        2,
-        five,
-        TRUE_SHEET,
-        &mut [zero; 8],
-        &mut [zero; 2],
-        Err(21),
-    )?;
-    check_judged(&rt, 2, five, b"", &mut [zero; 8], &mut [zero; 3], Err(31))
+    let cases = [
+        (five, ONE_ROW_TRUE, Ok(9)),
+        (zero, ONE_ROW_FALSE, Err(51)),
+        (five, ONE_ROW_FALSE, Err(51)),
+    ];
+    for (point, sheet, found) in cases {
+        check_judged(&rt, 1, point, sheet, &mut [zero; 8], &mut [zero; 1], found)?;
+    }
+    let mut sums = [zero; 8];
+    check_judged(&rt, 2, five, TRUE_SHEET, &mut sums, &mut [zero; 2], Err(21))?;
+    check_judged(&rt, 2, five, b"", &mut sums, &mut [zero; 3], Err(31))
 }
