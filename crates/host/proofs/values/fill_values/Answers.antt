@@ -23,3 +23,23 @@ loop-j-preserved g c =
     let more = listed_more (λ k. q.rule h v (node F k) (columns F h v fs (node F k))) j old c.rule.result (omega (arith)) value in
     let back : j ≡ j + 1 - 1 = omega arith in
     (ap (λ xs. set xs j c.rule.result) inv.0 ∙ more, size, λ b. now-is ∙ ap (λ k. columns F h v fs (node F k)) back)
+
+pub returns : goal.returns
+returns g c =
+    let F = g.F.Field.model in
+    let q = g.Q.Question.meaning c.args.asked.now.question.now in
+    let h = c.args.asked.now.grid.rows in
+    let v = c.args.asked.now.grid.columns in
+    let fs = c.args.counts.now in
+    let d = c.args.asked.now.degree in
+    let inv = c.loop-j.invariant in
+    let old = c.split_at_mut-values.result.0.now in
+    let n : length old ≡ suc d = omega (arith, c.split_at_mut-values.ensures.front_len) in
+    let j : c.loop-j.j ≡ suc d = omega (arith) in
+    let last : c.loop-j.j - 1 ≡ d = omega arith in
+    let values = inv.0 ∙ listed_all (λ k. q.rule h v (node F k) (columns F h v fs (node F k))) c.loop-j.j old (omega arith) (omega arith) ∙ ap (λ n. listed 0 n (λ k. q.rule h v (node F k) (columns F h v fs (node F k)))) n in
+    let sums = inv.2 (omega arith) ∙ ap (λ k. columns F h v fs (node F k)) last in
+    let one : d + 1 ≡ suc d = omega arith in
+    let rest : drop c.columns.result c.split_at_mut-values.result.1.now ≡ drop (suc d + v) c.args.tray.now =
+    ap₂ drop c.columns.ensures (c.split_at_mut-values.ensures.back ∙ ap (λ n. drop n c.args.tray.now) one) ∙ drop-drop v (suc d) c.args.tray.now in
+    ap₂ ◌++◌ (values ∙ ap (λ n. listed 0 (suc n) (λ k. q.rule h v (node F k) (columns F h v fs (node F k)))) c.args.asked.now.stated) (ap₂ ◌++◌ sums rest)
