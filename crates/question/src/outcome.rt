@@ -4,3 +4,15 @@ pub enum Fit {
     Fits,
     DoesNotFit,
 }
+
+impl From<bool> for Fit {
+    ghost use Rattle.std.specs.Prelude.{◌≡◌};
+    ghost use Rattle.question.specs.Question.{fits_if};
+
+    // What a test says of it.
+    ghost from_gives = { λ test fit. fit ≡ fits_if test };
+
+    fn from(test: bool) -> Fit {
+        if test { Fit::Fits } else { Fit::DoesNotFit }
+    }
+}

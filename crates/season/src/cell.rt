@@ -1,7 +1,6 @@
 // The count at one cell.
 ghost use Rattle.question.specs.Cells.{cell_question};
 
-use crate::fits::fit_if;
 use board::Grid;
 use field::Field;
 use polynomial::basis_at;
@@ -16,7 +15,7 @@ impl<F: Field> Question<F> for Cell {
     ghost meaning = { λ q. cell_question F.Field.model q.index };
 
     fn fit(&self, grid: Grid) -> Fit {
-        fit_if(self.index < grid.cells())
+        Fit::from(self.index < grid.cells())
     }
 
     fn degree(&self, grid: Grid) -> u32 {

@@ -1,7 +1,6 @@
 // The count of one of the eight goods: cell i is of the goods i mod 8, and so is column i.
 ghost use Rattle.question.specs.GoodsSums.{goods_question};
 
-use crate::fits::fit_if;
 use board::Grid;
 use field::Field;
 use question::{Fit, Question, Tag};
@@ -15,7 +14,7 @@ impl<F: Field> Question<F> for Goods {
     ghost meaning = { λ q. goods_question F.Field.model q.kind };
 
     fn fit(&self, _grid: Grid) -> Fit {
-        fit_if(self.kind < 8)
+        Fit::from(self.kind < 8)
     }
 
     fn degree(&self, grid: Grid) -> u32 {

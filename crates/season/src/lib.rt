@@ -2,7 +2,6 @@
 #![tactic(auto)]
 
 mod cell;
-mod fits;
 mod goods;
 mod mixture;
 mod range;

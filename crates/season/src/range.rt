@@ -4,7 +4,6 @@ ghost use Rattle.polynomial.specs.Interpolation.{chi};
 ghost use Rattle.polynomial.specs.Sums.{sum_from};
 ghost use Rattle.question.specs.Cells.{cells_between, cells_rule, range_question};
 
-use crate::fits::fit_if;
 use board::Grid;
 use field::Field;
 use polynomial::{basis_at, total};
@@ -52,7 +51,7 @@ impl<F: Field> Question<F> for Range {
     ghost meaning = { λ q. range_question F.Field.model q.first q.last };
 
     fn fit(&self, grid: Grid) -> Fit {
-        fit_if(self.first <= self.last && self.last < grid.cells())
+        Fit::from(self.first <= self.last && self.last < grid.cells())
     }
 
     fn degree(&self, grid: Grid) -> u32 {
