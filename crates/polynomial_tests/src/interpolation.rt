@@ -10,6 +10,7 @@ type Quadratic = Extension<Mod65537>;
 // A point by its parts, and the value there by its parts.
 type Case = ((u32, u32), (u32, u32));
 
+// Also in field_tests: a library for this one function would be no plainer.
 fn element<F: Field>(rt: &impl Abort, parts: (u32, u32)) -> F {
     let (low, high) = parts;
     assert!(rt; low < F::characteristic());

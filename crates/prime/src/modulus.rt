@@ -17,7 +17,7 @@ pub trait Modulus<const P: u32> {
 
     const NON_SQUARE: u32;
 
-    // The inverses of 1 to 252.
+    // The inverses of 1 to 252. By a rule of the project, each modulus has them as a constant table.
     fn inverses() -> &'static [u32; 252]
         ensures { T (inverses P 1 result.now) };
 
