@@ -1,5 +1,6 @@
 // The worked sheet, cut, changed and damaged.
 use crate::tables::{CHANGES, CUTS, SHEET};
+use board::{Fault, Refusal, Tag};
 use field::Field;
 use prime::Mod65537;
 use sheet::{Terms, read_sheet};
@@ -9,7 +10,11 @@ use std::test::Fail;
 const TERMS: Terms = Terms {
     rows: 2,
     columns: 8,
-    tag: (4, 0, 0),
+    tag: Tag {
+        kind: 4,
+        first: 0,
+        second: 0,
+    },
     least: 0,
     greatest: 65536,
     degree: 2,
@@ -19,7 +24,7 @@ const TERMS: Terms = Terms {
 fn check_refused(
     rt: &impl Abort,
     sheet: &[u8],
-    number: u8,
+    fault: Fault,
     line: usize,
     place: usize,
 ) -> Result<(), Fail> {
@@ -27,8 +32,7 @@ fn check_refused(
     match read_sheet(sheet, &TERMS, &mut tray) {
         Ok(_) => Err(Fail::new("a damaged sheet was read")),
         Err(refusal) => {
-            assert_eq!(rt; refusal.number(), number);
-            assert_eq!(rt; refusal.position(), Some((line, place)));
+            assert_eq!(rt; refusal, Refusal::Sheet { fault, line, place });
             assert_eq!(rt; (tray[0].low(), tray[1].low()), (0, 0));
             assert_eq!(rt; (tray[2].low(), tray[3].low()), (0, 1));
             Ok(())
@@ -52,21 +56,18 @@ fn check_read(rt: &impl Abort, sheet: &[u8]) -> Result<(), Fail> {
 
 #[test]
 fn cut_behind_every_byte(rt: HostRuntime) -> Result<(), Fail> {
-    for n in 0..92 {
-        let (number, line, place) = CUTS[n];
-        let whole = *SHEET;
-        check_refused(&rt, &whole[0..n], number, line, place)?;
+    for (n, &(fault, line, place)) in CUTS.iter().enumerate() {
+        check_refused(&rt, &SHEET[..n], fault, line, place)?;
     }
     Ok(())
 }
 
 #[test]
 fn changed_at_every_byte(rt: HostRuntime) -> Result<(), Fail> {
-    for n in 0..92 {
-        let (number, line, place) = CHANGES[n];
+    for (n, &(fault, line, place)) in CHANGES.iter().enumerate() {
         let mut changed = *SHEET;
         changed[n] = b'x';
-        check_refused(&rt, &changed, number, line, place)?;
+        check_refused(&rt, &changed, fault, line, place)?;
     }
     Ok(())
 }
@@ -95,22 +96,22 @@ fn read_with_spaces_and_zeros(rt: HostRuntime) -> Result<(), Fail> {
 #[test]
 fn damaged_first(rt: HostRuntime) -> Result<(), Fail> {
     // upper case
-    check_refused(&rt, b"(Sheet 65537 1 (grid 2 8))\n", 30, 1, 1)?;
+    check_refused(&rt, b"(Sheet 65537 1 (grid 2 8))\n", Fault::Malformed, 1, 1)?;
     // carriage return
     check_refused(
         &rt,
         b"(sheet 65537 1 (grid 2 8))\r\n(claim (4 0 0) 14)\r\n(at 0 (9 0))\r\n(at 1 (5 0))\r\n(at 2 (17 0))\r\n(end)\r\n",
-        30,
+        Fault::Malformed,
         1,
         26,
     )?;
     // bytes from 128 on
-    check_refused(&rt, b"\xc3\xa9", 30, 1, 0)?;
+    check_refused(&rt, b"\xc3\xa9", Fault::Malformed, 1, 0)?;
     // a minus alone
     check_refused(
         &rt,
         b"(sheet 65537 1 (grid 2 8))\n(claim (4 0 0) -)\n(at 0 (9 0))\n(at 1 (5 0))\n(at 2 (17 0))\n(end)\n",
-        30,
+        Fault::Malformed,
         2,
         42,
     )?;
@@ -118,17 +119,17 @@ fn damaged_first(rt: HostRuntime) -> Result<(), Fail> {
     check_refused(
         &rt,
         b"(sheet 65537 1 (grid 2 8))\n(claim (4 0 0) 00000000014)\n(at 0 (9 0))\n(at 1 (5 0))\n(at 2 (17 0))\n(end)\n",
-        30,
+        Fault::Malformed,
         2,
         42,
     )?;
     // nine letters
-    check_refused(&rt, b"(sheetsheet", 30, 1, 1)?;
+    check_refused(&rt, b"(sheetsheet", Fault::Malformed, 1, 1)?;
     // a claim of 65551
     check_refused(
         &rt,
         b"(sheet 65537 1 (grid 2 8))\n(claim (4 0 0) 65551)\n(at 0 (9 0))\n(at 1 (5 0))\n(at 2 (17 0))\n(end)\n",
-        43,
+        Fault::Claim,
         2,
         42,
     )?;
@@ -136,7 +137,7 @@ fn damaged_first(rt: HostRuntime) -> Result<(), Fail> {
     check_refused(
         &rt,
         b"(sheet 65537 1 (grid 2 8))\n(claim (4 0 0) -14)\n(at 0 (9 0))\n(at 1 (5 0))\n(at 2 (17 0))\n(end)\n",
-        43,
+        Fault::Claim,
         2,
         42,
     )?;
@@ -144,7 +145,7 @@ fn damaged_first(rt: HostRuntime) -> Result<(), Fail> {
     check_refused(
         &rt,
         b"(sheet 65539 1 (grid 2 8))\n(claim (4 0 0) 14)\n(at 0 (9 0))\n(at 1 (5 0))\n(at 2 (17 0))\n(end)\n",
-        40,
+        Fault::Field,
         1,
         7,
     )?;
@@ -152,7 +153,7 @@ fn damaged_first(rt: HostRuntime) -> Result<(), Fail> {
     check_refused(
         &rt,
         b"(sheet 65537 2 (grid 2 8))\n(claim (4 0 0) 14)\n(at 0 (9 0))\n(at 1 (5 0))\n(at 2 (17 0))\n(end)\n",
-        40,
+        Fault::Field,
         1,
         13,
     )?;
@@ -160,7 +161,7 @@ fn damaged_first(rt: HostRuntime) -> Result<(), Fail> {
     check_refused(
         &rt,
         b"(sheet 65537 1 (grid 2 16))\n(claim (4 0 0) 14)\n(at 0 (9 0))\n(at 1 (5 0))\n(at 2 (17 0))\n(end)\n",
-        41,
+        Fault::Grid,
         1,
         23,
     )
@@ -172,7 +173,7 @@ fn damaged_second(rt: HostRuntime) -> Result<(), Fail> {
     check_refused(
         &rt,
         b"(sheet 65537 1 (grid 2 8))\n(claim (4 0 1) 14)\n(at 0 (9 0))\n(at 1 (5 0))\n(at 2 (17 0))\n(end)\n",
-        42,
+        Fault::Tag,
         2,
         39,
     )?;
@@ -180,7 +181,7 @@ fn damaged_second(rt: HostRuntime) -> Result<(), Fail> {
     check_refused(
         &rt,
         b"(sheet 65537 1 (grid 2 8))\n(claim (4 0 0) 14)\n(at 0 (9 0))\n(at 0 (9 0))\n(at 2 (17 0))\n(end)\n",
-        44,
+        Fault::Index,
         4,
         63,
     )?;
@@ -188,7 +189,7 @@ fn damaged_second(rt: HostRuntime) -> Result<(), Fail> {
     check_refused(
         &rt,
         b"(sheet 65537 1 (grid 2 8))\n(claim (4 0 0) 14)\n(at 0 (9 0))\n(at 1 (5 0))\n(at 2 (17 0))\n(at 3 (0 0))\n(end)\n",
-        31,
+        Fault::Unexpected,
         6,
         87,
     )?;
@@ -196,7 +197,7 @@ fn damaged_second(rt: HostRuntime) -> Result<(), Fail> {
     check_refused(
         &rt,
         b"(sheet 65537 1 (grid 2 8))\n(claim (4 0 0) 14)\n(at 0 (65537 0))\n(at 1 (5 0))\n(at 2 (17 0))\n(end)\n",
-        45,
+        Fault::Part,
         3,
         53,
     )?;
@@ -204,7 +205,7 @@ fn damaged_second(rt: HostRuntime) -> Result<(), Fail> {
     check_refused(
         &rt,
         b"(sheet 65537 1 (grid 2 8))\n(claim (4 0 0) 14)\n(at 0 (9 1))\n(at 1 (5 0))\n(at 2 (17 0))\n(end)\n",
-        45,
+        Fault::Part,
         3,
         55,
     )?;
@@ -212,7 +213,7 @@ fn damaged_second(rt: HostRuntime) -> Result<(), Fail> {
     check_refused(
         &rt,
         b"(sheet 65537 1 (grid 2 8))\n(claim (4 0 0) 14)\n(at 0 (-9 0))\n(at 1 (5 0))\n(at 2 (17 0))\n(end)\n",
-        45,
+        Fault::Part,
         3,
         53,
     )?;
@@ -220,7 +221,7 @@ fn damaged_second(rt: HostRuntime) -> Result<(), Fail> {
     check_refused(
         &rt,
         b"(sheet 65537 1 (grid 2 8))\n(claim (4 0 0) 14)\n(at 0 (9 0))\n(at 1 (5 0))\n(at 2 (17 0))\n(end)",
-        31,
+        Fault::Unexpected,
         6,
         91,
     )?;
@@ -228,7 +229,7 @@ fn damaged_second(rt: HostRuntime) -> Result<(), Fail> {
     check_refused(
         &rt,
         b"(sheet 65537 1 (grid 2 8))\n(claim (4 0 0) 14)\n(at 0 (9 0))\n(at 1 (5 0))\n(at 2 (17 0))\n(end)\nx",
-        31,
+        Fault::Unexpected,
         7,
         92,
     )?;
@@ -236,7 +237,7 @@ fn damaged_second(rt: HostRuntime) -> Result<(), Fail> {
     check_refused(
         &rt,
         b"(sheet 65537 1 (grid 2 8))\n(claim (4 0 0) 14)\n(at 0 (9 0))\n(at 1 (5 0))\n(at 2 (17 0))\n(end)\n\n",
-        31,
+        Fault::Unexpected,
         7,
         92,
     )?;
@@ -244,7 +245,7 @@ fn damaged_second(rt: HostRuntime) -> Result<(), Fail> {
     check_refused(
         &rt,
         b"(sheet 65537 1 (grid 2 8)) (claim (4 0 0) 14)\n(at 0 (9 0))\n(at 1 (5 0))\n(at 2 (17 0))\n(end)\n",
-        31,
+        Fault::Unexpected,
         1,
         27,
     )?;
@@ -252,7 +253,7 @@ fn damaged_second(rt: HostRuntime) -> Result<(), Fail> {
     check_refused(
         &rt,
         b"(sheet 65537 1 (grid 2 8))\n\n(claim (4 0 0) 14)\n(at 0 (9 0))\n(at 1 (5 0))\n(at 2 (17 0))\n(end)\n",
-        31,
+        Fault::Unexpected,
         2,
         27,
     )
