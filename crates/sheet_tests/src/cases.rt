@@ -93,168 +93,163 @@ fn read_with_spaces_and_zeros(rt: HostRuntime) -> Result<(), Fail> {
     )
 }
 
-#[test]
-fn damaged_first(rt: HostRuntime) -> Result<(), Fail> {
+const FIRST: [(&[u8], Fault, usize, usize); 11] = [
     // upper case
-    check_refused(&rt, b"(Sheet 65537 1 (grid 2 8))\n", Fault::Malformed, 1, 1)?;
+    (b"(Sheet 65537 1 (grid 2 8))\n", Fault::Malformed, 1, 1),
     // carriage return
-    check_refused(
-        &rt,
+    (
         b"(sheet 65537 1 (grid 2 8))\r\n(claim (4 0 0) 14)\r\n(at 0 (9 0))\r\n(at 1 (5 0))\r\n(at 2 (17 0))\r\n(end)\r\n",
         Fault::Malformed,
         1,
         26,
-    )?;
+    ),
     // bytes from 128 on
-    check_refused(&rt, b"\xc3\xa9", Fault::Malformed, 1, 0)?;
+    (b"\xc3\xa9", Fault::Malformed, 1, 0),
     // a minus alone
-    check_refused(
-        &rt,
+    (
         b"(sheet 65537 1 (grid 2 8))\n(claim (4 0 0) -)\n(at 0 (9 0))\n(at 1 (5 0))\n(at 2 (17 0))\n(end)\n",
         Fault::Malformed,
         2,
         42,
-    )?;
+    ),
     // eleven digits
-    check_refused(
-        &rt,
+    (
         b"(sheet 65537 1 (grid 2 8))\n(claim (4 0 0) 00000000014)\n(at 0 (9 0))\n(at 1 (5 0))\n(at 2 (17 0))\n(end)\n",
         Fault::Malformed,
         2,
         42,
-    )?;
+    ),
     // nine letters
-    check_refused(&rt, b"(sheetsheet", Fault::Malformed, 1, 1)?;
+    (b"(sheetsheet", Fault::Malformed, 1, 1),
     // a claim of 65551
-    check_refused(
-        &rt,
+    (
         b"(sheet 65537 1 (grid 2 8))\n(claim (4 0 0) 65551)\n(at 0 (9 0))\n(at 1 (5 0))\n(at 2 (17 0))\n(end)\n",
         Fault::Claim,
         2,
         42,
-    )?;
+    ),
     // a negative claim
-    check_refused(
-        &rt,
+    (
         b"(sheet 65537 1 (grid 2 8))\n(claim (4 0 0) -14)\n(at 0 (9 0))\n(at 1 (5 0))\n(at 2 (17 0))\n(end)\n",
         Fault::Claim,
         2,
         42,
-    )?;
+    ),
     // another p
-    check_refused(
-        &rt,
+    (
         b"(sheet 65539 1 (grid 2 8))\n(claim (4 0 0) 14)\n(at 0 (9 0))\n(at 1 (5 0))\n(at 2 (17 0))\n(end)\n",
         Fault::Field,
         1,
         7,
-    )?;
+    ),
     // another e
-    check_refused(
-        &rt,
+    (
         b"(sheet 65537 2 (grid 2 8))\n(claim (4 0 0) 14)\n(at 0 (9 0))\n(at 1 (5 0))\n(at 2 (17 0))\n(end)\n",
         Fault::Field,
         1,
         13,
-    )?;
+    ),
     // another grid
-    check_refused(
-        &rt,
+    (
         b"(sheet 65537 1 (grid 2 16))\n(claim (4 0 0) 14)\n(at 0 (9 0))\n(at 1 (5 0))\n(at 2 (17 0))\n(end)\n",
         Fault::Grid,
         1,
         23,
-    )
-}
+    ),
+];
 
 #[test]
-fn damaged_second(rt: HostRuntime) -> Result<(), Fail> {
+fn damaged_first(rt: HostRuntime) -> Result<(), Fail> {
+    for &(sheet, fault, line, place) in FIRST.iter() {
+        check_refused(&rt, sheet, fault, line, place)?;
+    }
+    Ok(())
+}
+
+const SECOND: [(&[u8], Fault, usize, usize); 11] = [
     // another tag
-    check_refused(
-        &rt,
+    (
         b"(sheet 65537 1 (grid 2 8))\n(claim (4 0 1) 14)\n(at 0 (9 0))\n(at 1 (5 0))\n(at 2 (17 0))\n(end)\n",
         Fault::Tag,
         2,
         39,
-    )?;
+    ),
     // a line twice
-    check_refused(
-        &rt,
+    (
         b"(sheet 65537 1 (grid 2 8))\n(claim (4 0 0) 14)\n(at 0 (9 0))\n(at 0 (9 0))\n(at 2 (17 0))\n(end)\n",
         Fault::Index,
         4,
         63,
-    )?;
+    ),
     // a surplus line
-    check_refused(
-        &rt,
+    (
         b"(sheet 65537 1 (grid 2 8))\n(claim (4 0 0) 14)\n(at 0 (9 0))\n(at 1 (5 0))\n(at 2 (17 0))\n(at 3 (0 0))\n(end)\n",
         Fault::Unexpected,
         6,
         87,
-    )?;
+    ),
     // a part that is p
-    check_refused(
-        &rt,
+    (
         b"(sheet 65537 1 (grid 2 8))\n(claim (4 0 0) 14)\n(at 0 (65537 0))\n(at 1 (5 0))\n(at 2 (17 0))\n(end)\n",
         Fault::Part,
         3,
         53,
-    )?;
+    ),
     // a high part
-    check_refused(
-        &rt,
+    (
         b"(sheet 65537 1 (grid 2 8))\n(claim (4 0 0) 14)\n(at 0 (9 1))\n(at 1 (5 0))\n(at 2 (17 0))\n(end)\n",
         Fault::Part,
         3,
         55,
-    )?;
+    ),
     // a negative part
-    check_refused(
-        &rt,
+    (
         b"(sheet 65537 1 (grid 2 8))\n(claim (4 0 0) 14)\n(at 0 (-9 0))\n(at 1 (5 0))\n(at 2 (17 0))\n(end)\n",
         Fault::Part,
         3,
         53,
-    )?;
+    ),
     // no last line end
-    check_refused(
-        &rt,
+    (
         b"(sheet 65537 1 (grid 2 8))\n(claim (4 0 0) 14)\n(at 0 (9 0))\n(at 1 (5 0))\n(at 2 (17 0))\n(end)",
         Fault::Unexpected,
         6,
         91,
-    )?;
+    ),
     // text after the end
-    check_refused(
-        &rt,
+    (
         b"(sheet 65537 1 (grid 2 8))\n(claim (4 0 0) 14)\n(at 0 (9 0))\n(at 1 (5 0))\n(at 2 (17 0))\n(end)\nx",
         Fault::Unexpected,
         7,
         92,
-    )?;
+    ),
     // a line after the end
-    check_refused(
-        &rt,
+    (
         b"(sheet 65537 1 (grid 2 8))\n(claim (4 0 0) 14)\n(at 0 (9 0))\n(at 1 (5 0))\n(at 2 (17 0))\n(end)\n\n",
         Fault::Unexpected,
         7,
         92,
-    )?;
+    ),
     // two forms on a line
-    check_refused(
-        &rt,
+    (
         b"(sheet 65537 1 (grid 2 8)) (claim (4 0 0) 14)\n(at 0 (9 0))\n(at 1 (5 0))\n(at 2 (17 0))\n(end)\n",
         Fault::Unexpected,
         1,
         27,
-    )?;
+    ),
     // a blank line
-    check_refused(
-        &rt,
+    (
         b"(sheet 65537 1 (grid 2 8))\n\n(claim (4 0 0) 14)\n(at 0 (9 0))\n(at 1 (5 0))\n(at 2 (17 0))\n(end)\n",
         Fault::Unexpected,
         2,
         27,
-    )
+    ),
+];
+
+#[test]
+fn damaged_second(rt: HostRuntime) -> Result<(), Fail> {
+    for &(sheet, fault, line, place) in SECOND.iter() {
+        check_refused(&rt, sheet, fault, line, place)?;
+    }
+    Ok(())
 }
