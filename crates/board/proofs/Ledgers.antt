@@ -1,5 +1,5 @@
 -- What the ledger keeps: its counts are as many as the cells, and their absolute values come to the weight at most. Assumes nothing.
-use Rattle.std.proofs.Common.{◌≡◌, ℕ, zero, suc, ◌+◌, ◌*◌, ◌<◌, ◌≤◌, Bool, true, false, ltb, leb, List, [], ◌∷◌, ◌++◌, length, get_or, take, set, replicate, ℤ, pos, ◌+ℤ◌, nat_abs, Ok, Err, Result, refl, ap, ◌∙◌, subst, arith, length-set, ltb-true, leb-true}
+use Rattle.std.proofs.Common.{IfOk, ◌≡◌, ℕ, zero, suc, ◌+◌, ◌*◌, ◌<◌, ◌≤◌, Bool, true, false, ltb, leb, List, [], ◌∷◌, ◌++◌, length, get_or, take, set, replicate, ℤ, pos, ◌+ℤ◌, nat_abs, Ok, Err, Result, refl, ap, ◌∙◌, subst, arith, length-set, ltb-true, leb-true}
 use lib.ListN.{length-replicate}
 use Rattle.std.proofs.lemmas.List.{take_more}
 use Rattle.std.proofs.lemmas.Int.{ints}
@@ -14,15 +14,10 @@ pub record Accepted (h v W w : ℕ) (m : Move) : Type 0 where
   pub amount_most : nat_abs m.amount ≤ 256
   pub light : w + nat_abs m.amount ≤ W
 
--- P, where a call was granted
-abbrev Good : Type 0 → Result (Unit {0}) Refusal → Type 0
-Good P (Ok u) = P
-Good P (Err r) = Unit {0}
-
 pub move_accepted : (h v W w : ℕ) (m : Move) (u : Unit {0}) → move_answer h v W w m ≡ Ok u → Accepted h v W w m
-move_accepted h v W w m u e = subst (Good (Accepted h v W w m)) e (cases (ltb m.cell (h * v)) (leb 1 (nat_abs m.amount)) (leb (nat_abs m.amount) 256) (leb (w + nat_abs m.amount) W) refl refl refl refl)
+move_accepted h v W w m u e = subst (λ r. IfOk r (λ _. Accepted h v W w m)) e (cases (ltb m.cell (h * v)) (leb 1 (nat_abs m.amount)) (leb (nat_abs m.amount) 256) (leb (w + nat_abs m.amount) W) refl refl refl refl)
   where
-    cases : (a b c d : Bool) → ltb m.cell (h * v) ≡ a → leb 1 (nat_abs m.amount) ≡ b → leb (nat_abs m.amount) 256 ≡ c → leb (w + nat_abs m.amount) W ≡ d → Good (Accepted h v W w m) (move_answer h v W w m)
+    cases : (a b c d : Bool) → ltb m.cell (h * v) ≡ a → leb 1 (nat_abs m.amount) ≡ b → leb (nat_abs m.amount) 256 ≡ c → leb (w + nat_abs m.amount) W ≡ d → IfOk (move_answer h v W w m) (λ _. Accepted h v W w m)
     cases false b c d p q r s = rw p tt
     cases true false c d p q r s = rw (p, q) tt
     cases true true false d p q r s = rw (p, q, r) tt

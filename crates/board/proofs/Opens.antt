@@ -1,9 +1,8 @@
 -- What a granted open says of the grid and the bank, and what the bank then holds. Assumes nothing.
-use Rattle.std.proofs.Common.{◌≡◌, ℕ, ◌%◌, ◌≤◌, Bool, true, false, ◌&&◌, eqb, leb, List, length, take, drop, replicate, Ok, Err, Result, refl, ap, ◌∙◌, subst, arith, length-append, length-drop, eqb-true, leb-true}
+use Rattle.std.proofs.Common.{IfOk, ◌≡◌, ℕ, ◌%◌, ◌≤◌, Bool, true, false, ◌&&◌, eqb, leb, List, length, take, drop, replicate, Ok, refl, ap, ◌∙◌, subst, arith, length-append, length-drop, eqb-true, leb-true}
 use lib.ListN.{length-replicate}
 use lib.Seq.{take-append_seam, drop-append_seam}
 use borrow.Author.Tests.{clash}
-use Rattle.board.specs.declared.refusal.Refusal.{Refusal}
 use Rattle.board.specs.Banks.{filled, kept_or}
 use Rattle.board.specs.Books.{open_answer, open_bank}
 use Rattle.board.specs.Grids.{grid_allowed}
@@ -13,15 +12,11 @@ pub record OpenGranted {A : Type 0} (h v n : ℕ) (bank : List A) : Type 0 where
   pub allowed : grid_allowed h v ≡ true
   pub long : n ≤ length bank
 
-abbrev Good : Type 0 → Result (Unit {0}) Refusal → Type 0
-Good P (Ok u) = P
-Good P (Err r) = Unit {0}
-
 module _ {A : Type 0} (h v n : ℕ) (bank : List A) where
   pub open_granted : (u : Unit {0}) → open_answer h v n bank ≡ Ok u → OpenGranted h v n bank
-  open_granted u e = subst (Good (OpenGranted h v n bank)) e (cases (grid_allowed h v) (leb n (length bank)) refl refl)
+  open_granted u e = subst (λ r. IfOk r (λ _. OpenGranted h v n bank)) e (cases (grid_allowed h v) (leb n (length bank)) refl refl)
     where
-      cases : (a b : Bool) → grid_allowed h v ≡ a → leb n (length bank) ≡ b → Good (OpenGranted h v n bank) (open_answer h v n bank)
+      cases : (a b : Bool) → grid_allowed h v ≡ a → leb n (length bank) ≡ b → IfOk (open_answer h v n bank) (λ _. OpenGranted h v n bank)
       cases false b p q = rw p tt
       cases true false p q = rw (p, q) tt
       cases true true p q = rw (p, q) (record { allowed = p; long = leb-true _ _ q })

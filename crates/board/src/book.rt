@@ -26,7 +26,7 @@ impl Book {
             return Err(Refusal::CellOutside);
         }
         let size = m.amount.unsigned_abs();
-        if size == 0 || size > 256 {
+        if !(1..=256).contains(&size) {
             return Err(Refusal::AmountOutside);
         }
         if u64::from(self.weight) + size > u64::from(limit) {

@@ -11,8 +11,8 @@ impl Grid {
     pub fn new(rows: u64, columns: u64) -> Result<Grid, Refusal>
         ensures { Laid rows columns result }
     {
-        let rows_fit = 1 <= rows && rows <= 64;
-        let columns_fit = 8 <= columns && columns <= 1024 && columns % 8 == 0;
+        let rows_fit = (1..=64).contains(&rows);
+        let columns_fit = (8..=1024).contains(&columns) && columns % 8 == 0;
         if !rows_fit || !columns_fit {
             return Err(Refusal::GridOutside);
         }

@@ -16,6 +16,7 @@ impl Refusal {
     pub fn number(self) -> u8
         ensures { result ≡ number_of self }
     {
+        // one case has fields, so the numbers cannot be discriminants
         match self {
             Refusal::CellOutside => 1,
             Refusal::AmountOutside => 2,

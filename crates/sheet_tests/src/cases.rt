@@ -1,5 +1,6 @@
 // The worked sheet, cut, changed and damaged.
 use crate::tables::{CHANGES, CUTS, SHEET};
+use board::{Fault, Refusal, Tag};
 use field::Field;
 use prime::Mod65537;
 use sheet::{Terms, read_sheet};
@@ -9,7 +10,11 @@ use std::test::Fail;
 const TERMS: Terms = Terms {
     rows: 2,
     columns: 8,
-    tag: (4, 0, 0),
+    tag: Tag {
+        kind: 4,
+        first: 0,
+        second: 0,
+    },
     least: 0,
     greatest: 65536,
     degree: 2,
@@ -19,7 +24,7 @@ const TERMS: Terms = Terms {
 fn check_refused(
     rt: &impl Abort,
     sheet: &[u8],
-    number: u8,
+    fault: Fault,
     line: usize,
     place: usize,
 ) -> Result<(), Fail> {
@@ -27,8 +32,7 @@ fn check_refused(
     match read_sheet(sheet, &TERMS, &mut tray) {
         Ok(_) => Err(Fail::new("a damaged sheet was read")),
         Err(refusal) => {
-            assert_eq!(rt; refusal.number(), number);
-            assert_eq!(rt; refusal.position(), Some((line, place)));
+            assert_eq!(rt; refusal, Refusal::Sheet { fault, line, place });
             assert_eq!(rt; (tray[0].low(), tray[1].low()), (0, 0));
             assert_eq!(rt; (tray[2].low(), tray[3].low()), (0, 1));
             Ok(())
@@ -52,21 +56,18 @@ fn check_read(rt: &impl Abort, sheet: &[u8]) -> Result<(), Fail> {
 
 #[test]
 fn cut_behind_every_byte(rt: HostRuntime) -> Result<(), Fail> {
-    for n in 0..92 {
-        let (number, line, place) = CUTS[n];
-        let whole = *SHEET;
-        check_refused(&rt, &whole[0..n], number, line, place)?;
+    for (n, &(fault, line, place)) in CUTS.iter().enumerate() {
+        check_refused(&rt, &SHEET[..n], fault, line, place)?;
     }
     Ok(())
 }
 
 #[test]
 fn changed_at_every_byte(rt: HostRuntime) -> Result<(), Fail> {
-    for n in 0..92 {
-        let (number, line, place) = CHANGES[n];
+    for (n, &(fault, line, place)) in CHANGES.iter().enumerate() {
         let mut changed = *SHEET;
         changed[n] = b'x';
-        check_refused(&rt, &changed, number, line, place)?;
+        check_refused(&rt, &changed, fault, line, place)?;
     }
     Ok(())
 }
@@ -92,168 +93,163 @@ fn read_with_spaces_and_zeros(rt: HostRuntime) -> Result<(), Fail> {
     )
 }
 
-#[test]
-fn damaged_first(rt: HostRuntime) -> Result<(), Fail> {
+const FIRST: [(&[u8], Fault, usize, usize); 11] = [
     // upper case
-    check_refused(&rt, b"(Sheet 65537 1 (grid 2 8))\n", 30, 1, 1)?;
+    (b"(Sheet 65537 1 (grid 2 8))\n", Fault::Malformed, 1, 1),
     // carriage return
-    check_refused(
-        &rt,
+    (
         b"(sheet 65537 1 (grid 2 8))\r\n(claim (4 0 0) 14)\r\n(at 0 (9 0))\r\n(at 1 (5 0))\r\n(at 2 (17 0))\r\n(end)\r\n",
-        30,
+        Fault::Malformed,
         1,
         26,
-    )?;
+    ),
     // bytes from 128 on
-    check_refused(&rt, b"\xc3\xa9", 30, 1, 0)?;
+    (b"\xc3\xa9", Fault::Malformed, 1, 0),
     // a minus alone
-    check_refused(
-        &rt,
+    (
         b"(sheet 65537 1 (grid 2 8))\n(claim (4 0 0) -)\n(at 0 (9 0))\n(at 1 (5 0))\n(at 2 (17 0))\n(end)\n",
-        30,
+        Fault::Malformed,
         2,
         42,
-    )?;
+    ),
     // eleven digits
-    check_refused(
-        &rt,
+    (
         b"(sheet 65537 1 (grid 2 8))\n(claim (4 0 0) 00000000014)\n(at 0 (9 0))\n(at 1 (5 0))\n(at 2 (17 0))\n(end)\n",
-        30,
+        Fault::Malformed,
         2,
         42,
-    )?;
+    ),
     // nine letters
-    check_refused(&rt, b"(sheetsheet", 30, 1, 1)?;
+    (b"(sheetsheet", Fault::Malformed, 1, 1),
     // a claim of 65551
-    check_refused(
-        &rt,
+    (
         b"(sheet 65537 1 (grid 2 8))\n(claim (4 0 0) 65551)\n(at 0 (9 0))\n(at 1 (5 0))\n(at 2 (17 0))\n(end)\n",
-        43,
+        Fault::Claim,
         2,
         42,
-    )?;
+    ),
     // a negative claim
-    check_refused(
-        &rt,
+    (
         b"(sheet 65537 1 (grid 2 8))\n(claim (4 0 0) -14)\n(at 0 (9 0))\n(at 1 (5 0))\n(at 2 (17 0))\n(end)\n",
-        43,
+        Fault::Claim,
         2,
         42,
-    )?;
+    ),
     // another p
-    check_refused(
-        &rt,
+    (
         b"(sheet 65539 1 (grid 2 8))\n(claim (4 0 0) 14)\n(at 0 (9 0))\n(at 1 (5 0))\n(at 2 (17 0))\n(end)\n",
-        40,
+        Fault::Field,
         1,
         7,
-    )?;
+    ),
     // another e
-    check_refused(
-        &rt,
+    (
         b"(sheet 65537 2 (grid 2 8))\n(claim (4 0 0) 14)\n(at 0 (9 0))\n(at 1 (5 0))\n(at 2 (17 0))\n(end)\n",
-        40,
+        Fault::Field,
         1,
         13,
-    )?;
+    ),
     // another grid
-    check_refused(
-        &rt,
+    (
         b"(sheet 65537 1 (grid 2 16))\n(claim (4 0 0) 14)\n(at 0 (9 0))\n(at 1 (5 0))\n(at 2 (17 0))\n(end)\n",
-        41,
+        Fault::Grid,
         1,
         23,
-    )
+    ),
+];
+
+#[test]
+fn damaged_first(rt: HostRuntime) -> Result<(), Fail> {
+    for &(sheet, fault, line, place) in FIRST.iter() {
+        check_refused(&rt, sheet, fault, line, place)?;
+    }
+    Ok(())
 }
+
+const SECOND: [(&[u8], Fault, usize, usize); 11] = [
+    // another tag
+    (
+        b"(sheet 65537 1 (grid 2 8))\n(claim (4 0 1) 14)\n(at 0 (9 0))\n(at 1 (5 0))\n(at 2 (17 0))\n(end)\n",
+        Fault::Tag,
+        2,
+        39,
+    ),
+    // a line twice
+    (
+        b"(sheet 65537 1 (grid 2 8))\n(claim (4 0 0) 14)\n(at 0 (9 0))\n(at 0 (9 0))\n(at 2 (17 0))\n(end)\n",
+        Fault::Index,
+        4,
+        63,
+    ),
+    // a surplus line
+    (
+        b"(sheet 65537 1 (grid 2 8))\n(claim (4 0 0) 14)\n(at 0 (9 0))\n(at 1 (5 0))\n(at 2 (17 0))\n(at 3 (0 0))\n(end)\n",
+        Fault::Unexpected,
+        6,
+        87,
+    ),
+    // a part that is p
+    (
+        b"(sheet 65537 1 (grid 2 8))\n(claim (4 0 0) 14)\n(at 0 (65537 0))\n(at 1 (5 0))\n(at 2 (17 0))\n(end)\n",
+        Fault::Part,
+        3,
+        53,
+    ),
+    // a high part
+    (
+        b"(sheet 65537 1 (grid 2 8))\n(claim (4 0 0) 14)\n(at 0 (9 1))\n(at 1 (5 0))\n(at 2 (17 0))\n(end)\n",
+        Fault::Part,
+        3,
+        55,
+    ),
+    // a negative part
+    (
+        b"(sheet 65537 1 (grid 2 8))\n(claim (4 0 0) 14)\n(at 0 (-9 0))\n(at 1 (5 0))\n(at 2 (17 0))\n(end)\n",
+        Fault::Part,
+        3,
+        53,
+    ),
+    // no last line end
+    (
+        b"(sheet 65537 1 (grid 2 8))\n(claim (4 0 0) 14)\n(at 0 (9 0))\n(at 1 (5 0))\n(at 2 (17 0))\n(end)",
+        Fault::Unexpected,
+        6,
+        91,
+    ),
+    // text after the end
+    (
+        b"(sheet 65537 1 (grid 2 8))\n(claim (4 0 0) 14)\n(at 0 (9 0))\n(at 1 (5 0))\n(at 2 (17 0))\n(end)\nx",
+        Fault::Unexpected,
+        7,
+        92,
+    ),
+    // a line after the end
+    (
+        b"(sheet 65537 1 (grid 2 8))\n(claim (4 0 0) 14)\n(at 0 (9 0))\n(at 1 (5 0))\n(at 2 (17 0))\n(end)\n\n",
+        Fault::Unexpected,
+        7,
+        92,
+    ),
+    // two forms on a line
+    (
+        b"(sheet 65537 1 (grid 2 8)) (claim (4 0 0) 14)\n(at 0 (9 0))\n(at 1 (5 0))\n(at 2 (17 0))\n(end)\n",
+        Fault::Unexpected,
+        1,
+        27,
+    ),
+    // a blank line
+    (
+        b"(sheet 65537 1 (grid 2 8))\n\n(claim (4 0 0) 14)\n(at 0 (9 0))\n(at 1 (5 0))\n(at 2 (17 0))\n(end)\n",
+        Fault::Unexpected,
+        2,
+        27,
+    ),
+];
 
 #[test]
 fn damaged_second(rt: HostRuntime) -> Result<(), Fail> {
-    // another tag
-    check_refused(
-        &rt,
-        b"(sheet 65537 1 (grid 2 8))\n(claim (4 0 1) 14)\n(at 0 (9 0))\n(at 1 (5 0))\n(at 2 (17 0))\n(end)\n",
-        42,
-        2,
-        39,
-    )?;
-    // a line twice
-    check_refused(
-        &rt,
-        b"(sheet 65537 1 (grid 2 8))\n(claim (4 0 0) 14)\n(at 0 (9 0))\n(at 0 (9 0))\n(at 2 (17 0))\n(end)\n",
-        44,
-        4,
-        63,
-    )?;
-    // a surplus line
-    check_refused(
-        &rt,
-        b"(sheet 65537 1 (grid 2 8))\n(claim (4 0 0) 14)\n(at 0 (9 0))\n(at 1 (5 0))\n(at 2 (17 0))\n(at 3 (0 0))\n(end)\n",
-        31,
-        6,
-        87,
-    )?;
-    // a part that is p
-    check_refused(
-        &rt,
-        b"(sheet 65537 1 (grid 2 8))\n(claim (4 0 0) 14)\n(at 0 (65537 0))\n(at 1 (5 0))\n(at 2 (17 0))\n(end)\n",
-        45,
-        3,
-        53,
-    )?;
-    // a high part
-    check_refused(
-        &rt,
-        b"(sheet 65537 1 (grid 2 8))\n(claim (4 0 0) 14)\n(at 0 (9 1))\n(at 1 (5 0))\n(at 2 (17 0))\n(end)\n",
-        45,
-        3,
-        55,
-    )?;
-    // a negative part
-    check_refused(
-        &rt,
-        b"(sheet 65537 1 (grid 2 8))\n(claim (4 0 0) 14)\n(at 0 (-9 0))\n(at 1 (5 0))\n(at 2 (17 0))\n(end)\n",
-        45,
-        3,
-        53,
-    )?;
-    // no last line end
-    check_refused(
-        &rt,
-        b"(sheet 65537 1 (grid 2 8))\n(claim (4 0 0) 14)\n(at 0 (9 0))\n(at 1 (5 0))\n(at 2 (17 0))\n(end)",
-        31,
-        6,
-        91,
-    )?;
-    // text after the end
-    check_refused(
-        &rt,
-        b"(sheet 65537 1 (grid 2 8))\n(claim (4 0 0) 14)\n(at 0 (9 0))\n(at 1 (5 0))\n(at 2 (17 0))\n(end)\nx",
-        31,
-        7,
-        92,
-    )?;
-    // a line after the end
-    check_refused(
-        &rt,
-        b"(sheet 65537 1 (grid 2 8))\n(claim (4 0 0) 14)\n(at 0 (9 0))\n(at 1 (5 0))\n(at 2 (17 0))\n(end)\n\n",
-        31,
-        7,
-        92,
-    )?;
-    // two forms on a line
-    check_refused(
-        &rt,
-        b"(sheet 65537 1 (grid 2 8)) (claim (4 0 0) 14)\n(at 0 (9 0))\n(at 1 (5 0))\n(at 2 (17 0))\n(end)\n",
-        31,
-        1,
-        27,
-    )?;
-    // a blank line
-    check_refused(
-        &rt,
-        b"(sheet 65537 1 (grid 2 8))\n\n(claim (4 0 0) 14)\n(at 0 (9 0))\n(at 1 (5 0))\n(at 2 (17 0))\n(end)\n",
-        31,
-        2,
-        27,
-    )
+    for &(sheet, fault, line, place) in SECOND.iter() {
+        check_refused(&rt, sheet, fault, line, place)?;
+    }
+    Ok(())
 }

@@ -5,3 +5,5 @@
 mod cases;
 #[cfg(test)]
 mod tables;
+#[cfg(test)]
+mod words;

@@ -49,6 +49,7 @@ fn put_sheet<F: Field>(paper: &mut [u8], terms: &Terms, claim: i64, values: &[F]
 }
 
 // Writes a sheet where it has no more values than a sheet may have and the paper is enough for every such sheet.
+// It takes the terms by value: behind a reference a proof does not know that their numbers are in range.
 fn write<F: Field>(
     paper: &mut [u8],
     terms: Terms,
