@@ -29,18 +29,18 @@ impl Game {
     ) -> Result<&'a [i64], Refusal> {
         let board = bank
             .get(0..self.at.cells() as usize)
-            .ok_or(Refusal::FewCells)?;
+            .ok_or(Refusal::BankShort)?;
         if absolute_sum(board) > self.at.limit {
-            return Err(Refusal::CountBeyond);
+            return Err(Refusal::CountOutside);
         }
         if !ask.suits(self.at) {
-            return Err(Refusal::NoQuestion);
+            return Err(Refusal::QuestionUnfit);
         }
         if tray < ask.size(self.at).saturating_add(self.at.columns) {
-            return Err(Refusal::FewElements);
+            return Err(Refusal::TrayShort);
         }
         if paper < 9216 {
-            return Err(Refusal::FewBytes);
+            return Err(Refusal::PaperShort);
         }
         Ok(board)
     }

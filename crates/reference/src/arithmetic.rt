@@ -57,7 +57,7 @@ impl Arithmetic {
         }
     }
 
-    // x multiplied n times.
+    // x multiplied n times. A loop and no chain, since each step needs both the square and the rest of the one before.
     pub fn power(self, x: Element, n: u64) -> Element {
         let mut all = Element::one();
         let mut square = x;

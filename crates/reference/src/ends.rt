@@ -1,4 +1,5 @@
-// Both ends over banks of the caller's: open and note.
+// Both ends over banks of the caller's: open and note. They stay two of each, since they differ in the grid's part that a
+// bank needs, and in all that a move does; what is alike is in `Standing` and `fill_front`.
 use crate::arithmetic::Arithmetic;
 use crate::element::Element;
 use crate::front::fill_front;
@@ -15,7 +16,7 @@ pub fn open_host(
     bank: &mut [i64],
 ) -> Result<Standing, Refusal> {
     let standing = Standing::open(rows, columns, field.limit)?;
-    fill_front(bank, standing.cells(), 0).ok_or(Refusal::FewCells)?;
+    fill_front(bank, standing.cells(), 0).ok_or(Refusal::BankShort)?;
     Ok(standing)
 }
 
@@ -27,7 +28,7 @@ pub fn open_verifier(
     bank: &mut [Element],
 ) -> Result<Standing, Refusal> {
     let standing = Standing::open(rows, columns, field.limit)?;
-    fill_front(bank, columns, Element::zero()).ok_or(Refusal::FewCells)?;
+    fill_front(bank, columns, Element::zero()).ok_or(Refusal::BankShort)?;
     Ok(standing)
 }
 
@@ -39,12 +40,12 @@ pub fn note_at_host(
     amount: i64,
 ) -> Result<Standing, Refusal> {
     if (bank.len() as u64) < standing.cells() {
-        return Err(Refusal::FewCells);
+        return Err(Refusal::BankShort);
     }
     standing.test(cell, amount)?;
-    let count = bank.get_mut(cell as usize).ok_or(Refusal::FewCells)?;
+    let count = bank.get_mut(cell as usize).ok_or(Refusal::BankShort)?;
     if count.unsigned_abs() > standing.limit {
-        return Err(Refusal::CountBeyond);
+        return Err(Refusal::CountOutside);
     }
     *count = count.wrapping_add(amount);
     Ok(standing.after(amount))
@@ -59,7 +60,7 @@ pub fn note_at_verifier(
     amount: i64,
 ) -> Result<Standing, Stop> {
     if (bank.len() as u64) < game.at.columns {
-        return Err(Stop::from(Refusal::FewCells));
+        return Err(Stop::from(Refusal::BankShort));
     }
     game.at.test(cell, amount)?;
     let (row, column) = game.at.place(cell);

@@ -33,7 +33,7 @@ pub fn value_at(field: Arithmetic, values: &[Element], point: Element) -> Elemen
     )
 }
 
-// Column y at the point whose basis is given: the basis times the images of every so many counts, added.
+// Column y at the point whose basis is given, from the board's counts row by row.
 fn column(
     field: Arithmetic,
     basis: &[Element],
@@ -43,11 +43,11 @@ fn column(
 ) -> Element {
     basis
         .iter()
-        .zip(counts.iter().skip(y).step_by(columns.max(1)))
-        .fold(
-            Element::zero(),
-            |all, (weight, count)| field.sum(all, field.product(field.image(*count), *weight)),
-        )
+        .zip(counts.chunks(columns.max(1)))
+        .fold(Element::zero(), |all, (weight, row)| {
+            let count = row.get(y).copied().unwrap_or(0);
+            field.sum(all, field.product(field.image(count), *weight))
+        })
 }
 
 impl Game {

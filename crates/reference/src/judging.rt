@@ -29,10 +29,10 @@ impl Game {
         let read = self.read_sheet(ask, sheet)?;
         let values = read.values.as_slice();
         if first_sum(self.field, values, self.at.rows) != self.field.image(read.claim) {
-            return Err(Stop::from(Refusal::OtherSum));
+            return Err(Stop::from(Refusal::SumWrong));
         }
         if value_at(self.field, values, point) != self.rule(ask, point, columns)? {
-            return Err(Stop::from(Refusal::OtherValue));
+            return Err(Stop::from(Refusal::PointWrong));
         }
         Ok(read)
     }
@@ -48,9 +48,9 @@ impl Game {
     ) -> Result<i64, Stop> {
         let columns = bank
             .get(0..self.at.columns as usize)
-            .ok_or(Refusal::FewCells)?;
+            .ok_or(Refusal::BankShort)?;
         if !ask.suits(self.at) {
-            return Err(Stop::from(Refusal::NoQuestion));
+            return Err(Stop::from(Refusal::QuestionUnfit));
         }
         self.clear_tray(ask, tray)?;
         let read = self.weigh(point, columns, ask, sheet)?;

@@ -4,7 +4,7 @@ use crate::element::Element;
 use crate::front::{fill_front, put_front};
 use crate::game::Game;
 use crate::pieces::{Piece, pieces_of};
-use crate::refusal::{Flaw, Position, Refusal};
+use crate::refusal::{Fault, Position, Refusal};
 use crate::stop::Stop;
 use crate::wants::Want;
 use std::alloc::{AllocError, Global};
@@ -23,7 +23,7 @@ fn kept_numbers(heap: Global, wants: &[Want], pieces: &[Piece<'_>]) -> Result<Ve
         match want.kept(piece.text) {
             Ok(Some(number)) => kept.push(number)?,
             Ok(None) => {}
-            Err(flaw) => return Err(Stop::from(Refusal::Sheet(flaw, piece.at))),
+            Err(fault) => return Err(Stop::from(Refusal::Sheet(fault, piece.at))),
         }
     }
     Ok(kept)
@@ -48,7 +48,7 @@ impl Game {
         let kept = kept_numbers(self.heap, wants.as_slice(), pieces.as_slice())?;
         let Some((claim, parts)) = kept.as_slice().split_first() else {
             let start = Position { line: 1, place: 0 };
-            return Err(Stop::from(Refusal::Sheet(Flaw::OtherPiece, start)));
+            return Err(Stop::from(Refusal::Sheet(Fault::Unexpected, start)));
         };
         Ok(Sheet {
             claim: *claim,
@@ -58,7 +58,7 @@ impl Game {
 
     // Puts zeros into a tray's front, where a sheet's values go.
     pub(crate) fn clear_tray(self, ask: Ask, tray: &mut [Element]) -> Result<(), Refusal> {
-        fill_front(tray, ask.size(self.at), Element::zero()).ok_or(Refusal::FewElements)
+        fill_front(tray, ask.size(self.at), Element::zero()).ok_or(Refusal::TrayShort)
     }
 
     // Reads a sheet into the front of a tray: the claim, or a refusal, which from 30 on leaves zeros there.

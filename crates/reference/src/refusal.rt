@@ -9,44 +9,54 @@ pub struct Position {
 
 // What is wrong with a piece of a sheet.
 #[derive(Clone, Copy, PartialEq, Eq, Debug)]
-pub enum Flaw {
-    NoRun,
-    OtherPiece,
-    OtherField,
-    OtherGrid,
-    OtherTag,
-    ClaimBeyond,
-    OtherLine,
-    NoPart,
+pub enum Fault {
+    // It is neither a word nor a number.
+    Malformed,
+    // The grammar has another piece.
+    Unexpected,
+    // It is not the number of the field, of the grid, of the tag.
+    Field,
+    Grid,
+    Tag,
+    // The claim is beyond its limits.
+    Claim,
+    // The value line is not the next one.
+    Index,
+    // It is no part of an element.
+    Part,
 }
 
 #[derive(Clone, Copy, PartialEq, Eq, Debug)]
 pub enum Refusal {
-    NoCell,
-    NoAmount,
-    WeightBeyond,
-    NoGrid,
-    FewCells,
-    CountBeyond,
-    NoQuestion,
-    FewElements,
-    FewBytes,
-    Sheet(Flaw, Position),
-    OtherSum,
-    OtherValue,
+    // Of a move: its cell, its amount, its weight.
+    CellOutside,
+    AmountOutside,
+    TooHeavy,
+    // Of a grid, and of a bank.
+    GridOutside,
+    BankShort,
+    CountOutside,
+    // Of a question, and of the memory for its answer.
+    QuestionUnfit,
+    TrayShort,
+    PaperShort,
+    // Of a sheet: a fault, the sum, the value at the point.
+    Sheet(Fault, Position),
+    SumWrong,
+    PointWrong,
 }
 
-impl Flaw {
+impl Fault {
     pub fn number(self) -> u64 {
         match self {
-            Flaw::NoRun => 30,
-            Flaw::OtherPiece => 31,
-            Flaw::OtherField => 40,
-            Flaw::OtherGrid => 41,
-            Flaw::OtherTag => 42,
-            Flaw::ClaimBeyond => 43,
-            Flaw::OtherLine => 44,
-            Flaw::NoPart => 45,
+            Fault::Malformed => 30,
+            Fault::Unexpected => 31,
+            Fault::Field => 40,
+            Fault::Grid => 41,
+            Fault::Tag => 42,
+            Fault::Claim => 43,
+            Fault::Index => 44,
+            Fault::Part => 45,
         }
     }
 }
@@ -54,18 +64,18 @@ impl Flaw {
 impl Refusal {
     pub fn number(self) -> u64 {
         match self {
-            Refusal::NoCell => 1,
-            Refusal::NoAmount => 2,
-            Refusal::WeightBeyond => 3,
-            Refusal::NoGrid => 10,
-            Refusal::FewCells => 12,
-            Refusal::CountBeyond => 13,
-            Refusal::NoQuestion => 20,
-            Refusal::FewElements => 21,
-            Refusal::FewBytes => 22,
-            Refusal::Sheet(flaw, _) => flaw.number(),
-            Refusal::OtherSum => 50,
-            Refusal::OtherValue => 51,
+            Refusal::CellOutside => 1,
+            Refusal::AmountOutside => 2,
+            Refusal::TooHeavy => 3,
+            Refusal::GridOutside => 10,
+            Refusal::BankShort => 12,
+            Refusal::CountOutside => 13,
+            Refusal::QuestionUnfit => 20,
+            Refusal::TrayShort => 21,
+            Refusal::PaperShort => 22,
+            Refusal::Sheet(fault, _) => fault.number(),
+            Refusal::SumWrong => 50,
+            Refusal::PointWrong => 51,
         }
     }
 

@@ -14,7 +14,7 @@ impl Standing {
     // A new game on an allowed grid.
     pub fn open(rows: u64, columns: u64, limit: u64) -> Result<Standing, Refusal> {
         if !matches!(rows, 1..=64) || !matches!(columns, 8..=1024) || columns % 8 != 0 {
-            return Err(Refusal::NoGrid);
+            return Err(Refusal::GridOutside);
         }
         Ok(Standing {
             rows,
@@ -39,13 +39,13 @@ impl Standing {
     // The first of the refusals that a move meets.
     pub fn test(self, cell: u64, amount: i64) -> Result<(), Refusal> {
         if cell >= self.cells() {
-            return Err(Refusal::NoCell);
+            return Err(Refusal::CellOutside);
         }
         if amount == 0 || !matches!(amount, -256..=256) {
-            return Err(Refusal::NoAmount);
+            return Err(Refusal::AmountOutside);
         }
         if self.weight.saturating_add(amount.unsigned_abs()) > self.limit {
-            return Err(Refusal::WeightBeyond);
+            return Err(Refusal::TooHeavy);
         }
         Ok(())
     }

@@ -1,8 +1,8 @@
 // The text of a sheet, as a host writes it.
-use crate::ask::Tag;
 use crate::element::Element;
 use crate::front::put_front;
 use crate::game::Game;
+use crate::naming::Tag;
 use crate::refusal::Refusal;
 use crate::stop::Stop;
 use std::alloc::AllocError;
@@ -42,7 +42,7 @@ impl Game {
         paper: &mut [u8],
     ) -> Result<u64, Stop> {
         if paper.len() < 9216 || values.len() > 253 {
-            return Err(Stop::from(Refusal::FewBytes));
+            return Err(Stop::from(Refusal::PaperShort));
         }
         let text = self.write_sheet(tag, claim, values)?;
         put_front(paper, text.as_bytes());

@@ -1,39 +1,40 @@
 // What the grammar has, piece by piece.
-use crate::ask::{Ask, Limits};
+use crate::ask::Ask;
 use crate::game::Game;
+use crate::naming::Limits;
 use crate::pieces::{is_malformed, number_value};
-use crate::refusal::Flaw;
+use crate::refusal::Fault;
 use std::alloc::AllocError;
 
 #[derive(Clone, Copy)]
 pub enum Want {
     // A bracket, a line end or a word; no text at all at the end of the sheet.
     Text(&'static str),
-    // This number; another has this flaw.
-    Number(u64, Flaw),
-    // A number within limits, kept; another has this flaw.
-    Kept(Limits, Flaw),
+    // This number; another has this fault.
+    Number(u64, Fault),
+    // A number within limits, kept; another has this fault.
+    Kept(Limits, Fault),
 }
 
 impl Want {
     // The number to be kept of a piece where this is wanted, if there is one; or what is wrong with the piece.
-    pub fn kept(self, text: &[u8]) -> Result<Option<i64>, Flaw> {
+    pub fn kept(self, text: &[u8]) -> Result<Option<i64>, Fault> {
         if is_malformed(text) {
-            return Err(Flaw::NoRun);
+            return Err(Fault::Malformed);
         }
-        let (fits, kept, flaw) = match self {
-            Want::Text(wanted) => (text == wanted.as_bytes(), None, Flaw::OtherPiece),
-            Want::Number(wanted, flaw) => {
-                let value = number_value(text).ok_or(Flaw::OtherPiece)?;
-                (i64::try_from(wanted).ok() == Some(value), None, flaw)
+        let (fits, kept, fault) = match self {
+            Want::Text(wanted) => (text == wanted.as_bytes(), None, Fault::Unexpected),
+            Want::Number(wanted, fault) => {
+                let value = number_value(text).ok_or(Fault::Unexpected)?;
+                (i64::try_from(wanted).ok() == Some(value), None, fault)
             }
-            Want::Kept(limits, flaw) => {
-                let value = number_value(text).ok_or(Flaw::OtherPiece)?;
+            Want::Kept(limits, fault) => {
+                let value = number_value(text).ok_or(Fault::Unexpected)?;
                 let fits = limits.least <= value && value <= limits.greatest;
-                (fits, Some(value), flaw)
+                (fits, Some(value), fault)
             }
         };
-        if fits { Ok(kept) } else { Err(flaw) }
+        if fits { Ok(kept) } else { Err(fault) }
     }
 }
 
@@ -43,12 +44,12 @@ impl Game {
         wants.extend_from_slice(&[
             Want::Text("("),
             Want::Text("sheet"),
-            Want::Number(self.field.p, Flaw::OtherField),
-            Want::Number(self.field.e, Flaw::OtherField),
+            Want::Number(self.field.p, Fault::Field),
+            Want::Number(self.field.e, Fault::Field),
             Want::Text("("),
             Want::Text("grid"),
-            Want::Number(self.at.rows, Flaw::OtherGrid),
-            Want::Number(self.at.columns, Flaw::OtherGrid),
+            Want::Number(self.at.rows, Fault::Grid),
+            Want::Number(self.at.columns, Fault::Grid),
             Want::Text(")"),
             Want::Text(")"),
             Want::Text("\n"),
@@ -62,11 +63,11 @@ impl Game {
             Want::Text("("),
             Want::Text("claim"),
             Want::Text("("),
-            Want::Number(tag.kind, Flaw::OtherTag),
-            Want::Number(tag.first, Flaw::OtherTag),
-            Want::Number(tag.second, Flaw::OtherTag),
+            Want::Number(tag.kind, Fault::Tag),
+            Want::Number(tag.first, Fault::Tag),
+            Want::Number(tag.second, Fault::Tag),
             Want::Text(")"),
-            Want::Kept(ask.limits(self.field.limit), Flaw::ClaimBeyond),
+            Want::Kept(ask.limits(self.field.limit), Fault::Claim),
             Want::Text(")"),
             Want::Text("\n"),
         ])
@@ -88,10 +89,10 @@ impl Game {
         wants.extend_from_slice(&[
             Want::Text("("),
             Want::Text("at"),
-            Want::Number(j, Flaw::OtherLine),
+            Want::Number(j, Fault::Index),
             Want::Text("("),
-            Want::Kept(low, Flaw::NoPart),
-            Want::Kept(high, Flaw::NoPart),
+            Want::Kept(low, Fault::Part),
+            Want::Kept(high, Fault::Part),
             Want::Text(")"),
             Want::Text(")"),
             Want::Text("\n"),
