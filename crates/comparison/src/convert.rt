@@ -3,7 +3,7 @@ use field::Field;
 use reference::Element;
 use std::alloc::{AllocError, Global};
 
-// The element with these parts; zero where the field has none.
+// The element with these parts; zero where the field has none. No `From`, which could not be generic over every field.
 pub fn element<F: Field>(x: Element) -> F {
     let p = u64::from(F::characteristic());
     if x.low >= p || x.high >= p {

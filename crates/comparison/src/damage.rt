@@ -112,7 +112,8 @@ pub fn damaged(
     }
 }
 
-// A sheet with more spaces and zeros, which says the same as long as no number grows past ten digits.
+// A sheet with more spaces and zeros, which says the same as long as no number grows past ten digits. A chain would be
+// no plainer: a byte becomes one, two or three, by the byte before and by the dice.
 pub fn respaced(heap: Global, dice: &mut Dice, text: &[u8]) -> Result<Vec<u8>, AllocError> {
     let mut all = Vec::new(heap);
     let mut before = b' ';

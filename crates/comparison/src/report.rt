@@ -40,6 +40,7 @@ impl Report {
         if found != wanted {
             self.differing = self.differing.wrapping_add(1);
             if self.kept.len() < KEPT {
+                // A difference that finds no memory is counted all the same.
                 let _ = self.kept.push(Difference {
                     game: self.game,
                     what,

@@ -27,7 +27,8 @@ impl<F: Field> Sealed<F> {
         self.plain_sums.pop();
     }
 
-    // The answer of the product's host.
+    // The answer of the product's host. Asked here and not by the inquiry: tried, the proof did not close where two parts
+    // of what an inquiry borrows are lent at once.
     pub fn answer<Q: Question<F>>(
         &mut self,
         question: &Q,
