@@ -25,11 +25,10 @@ fn compare_two<F: Field>(table: &mut Table, a: Element, b: Element) {
         x.opposite(),
         field.difference(Element::zero(), a),
     );
-    let same = a.low == b.low && a.high == b.high;
-    table.report.holds("sameness", x.is_same(y) == same);
+    table.report.holds("sameness", x.is_same(y) == (a == b));
     match x.inverse() {
         Some(inverse) => compare(table, "an inverse", inverse, field.inverse(a)),
-        None => table.report.holds("no inverse", a.low == 0 && a.high == 0),
+        None => table.report.holds("no inverse", a == Element::zero()),
     }
 }
 
@@ -67,9 +66,8 @@ pub fn compare_arithmetic<F: Field>(table: &mut Table, times: u64) {
     let zero = Element::zero();
     compare_two::<F>(table, zero, zero);
     for _ in 0..times {
-        let field = table.field;
-        let a = table.dice.element(field);
-        let b = table.dice.element(field);
+        let a = table.dice.element(table.field);
+        let b = table.dice.element(table.field);
         compare_two::<F>(table, a, b);
         compare_two::<F>(table, a, a);
     }

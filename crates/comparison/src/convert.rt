@@ -3,7 +3,7 @@ use field::Field;
 use reference::Element;
 use std::alloc::{AllocError, Global};
 
-// The element with these parts; zero where the field has none.
+// The element with these parts; zero where the field has none. No `From`, which could not be generic over every field.
 pub fn element<F: Field>(x: Element) -> F {
     let p = u64::from(F::characteristic());
     if x.low >= p || x.high >= p {
@@ -23,39 +23,20 @@ pub fn parts<F: Field>(x: F) -> Element {
 }
 
 pub fn elements<F: Field>(heap: Global, xs: &[Element]) -> Result<Vec<F>, AllocError> {
-    let mut all = Vec::new(heap);
-    for x in xs {
-        all.push(element(*x))?;
-    }
-    Ok(all)
+    xs.iter().map(|x| element(*x)).collect(heap)
 }
 
-// Whether elements and pairs agree, one by one.
+// Whether what was found is, in plain numbers, what is wanted, one by one.
+pub fn same<X: Copy, Y: Copy + PartialEq, P: Fn(X) -> Y>(
+    found: &[X],
+    wanted: &[Y],
+    plain: P,
+) -> bool
+    requires { P.IsAlwaysCallable plain }
+{
+    found.len() == wanted.len() && found.iter().zip(wanted).all(|(x, y)| plain(*x) == *y)
+}
+
 pub fn same_elements<F: Field>(found: &[F], wanted: &[Element]) -> bool {
-    for (x, y) in found.iter().zip(wanted.iter()) {
-        if u64::from(x.low()) != y.low || u64::from(x.high()) != y.high {
-            return false;
-        }
-    }
-    found.len() == wanted.len()
-}
-
-// Whether counts agree, one by one.
-pub fn same_counts(found: &[i32], wanted: &[i64]) -> bool {
-    for (x, y) in found.iter().zip(wanted.iter()) {
-        if i64::from(*x) != *y {
-            return false;
-        }
-    }
-    found.len() == wanted.len()
-}
-
-// Whether bytes agree, one by one.
-pub fn same_bytes(found: &[u8], wanted: &[u8]) -> bool {
-    for (x, y) in found.iter().zip(wanted.iter()) {
-        if *x != *y {
-            return false;
-        }
-    }
-    found.len() == wanted.len()
+    same(found, wanted, |x| parts(x))
 }

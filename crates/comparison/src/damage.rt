@@ -19,60 +19,58 @@ fn spliced(
 
 // Whether a byte ends a run.
 fn stops(byte: u8) -> bool {
-    byte == b' ' || byte == b'(' || byte == b')' || byte == b'\n'
+    matches!(byte, b' ' | b'(' | b')' | b'\n')
 }
 
 // Where the run at a place begins.
 fn run_start(text: &[u8], at: usize) -> usize {
-    let mut start = 0;
-    for (i, byte) in text.iter().enumerate() {
-        if i >= at {
-            break;
-        }
-        if stops(*byte) {
-            start = i.wrapping_add(1);
-        }
-    }
-    start
+    text.get(0..at)
+        .unwrap_or(&[])
+        .iter()
+        .rposition(|byte| stops(*byte))
+        .map_or(0, |i| i.saturating_add(1))
 }
 
 // Where the run at a place ends.
 fn run_end(text: &[u8], at: usize) -> usize {
-    for (i, byte) in text.iter().enumerate() {
-        if i >= at && stops(*byte) {
-            return i;
-        }
-    }
-    text.len()
+    text.iter()
+        .skip(at)
+        .position(|byte| stops(*byte))
+        .map_or(text.len(), |i| i.saturating_add(at))
 }
 
-// A byte that means something in a sheet, or that is not allowed there.
-fn odd_byte(dice: &mut Dice) -> u8 {
-    let bytes = b" ()\n-059azA\t\r~\x00\x80\xff";
-    let at = dice.below(bytes.len() as u64) as usize;
-    if at < bytes.len() { bytes[at] } else { b'?' }
+// The text with another run in place of the one at a place.
+fn with_run(heap: Global, text: &[u8], at: usize, new: &[u8]) -> Result<Vec<u8>, AllocError> {
+    spliced(heap, text, run_start(text, at), run_end(text, at), new)
 }
 
-// A run that is nearly one of a sheet's.
-fn odd_run(dice: &mut Dice) -> &'static str {
-    match dice.below(16) {
-        0 => "-0",
-        1 => "007",
-        2 => "0000000000",
-        3 => "00000000000",
-        4 => "9999999999",
-        5 => "-9999999999",
-        6 => "65551",
-        7 => "-",
-        8 => "--1",
-        9 => "1-",
-        10 => "abcdefgh",
-        11 => "abcdefghi",
-        12 => "Sheet",
-        13 => "sheet",
-        14 => "end",
-        _ => "2147483648",
-    }
+// Bytes that mean something in a sheet, or that are not allowed there.
+const BYTES: &[u8] = b" ()\n-059azA\t\r~\x00\x80\xff";
+
+// Runs that are nearly a sheet's.
+const RUNS: [&str; 16] = [
+    "-0",
+    "007",
+    "0000000000",
+    "00000000000",
+    "9999999999",
+    "-9999999999",
+    "65551",
+    "-",
+    "--1",
+    "1-",
+    "abcdefgh",
+    "abcdefghi",
+    "Sheet",
+    "sheet",
+    "end",
+    "2147483648",
+];
+
+// One of several, or the other one where there are none.
+fn one_of<T: Copy>(dice: &mut Dice, several: &[T], other: T) -> T {
+    let at = dice.below(several.len() as u64) as usize;
+    several.get(at).copied().unwrap_or(other)
 }
 
 // A number that is the field's, the grid's or near it.
@@ -98,35 +96,24 @@ pub fn damaged(
 ) -> Result<Vec<u8>, AllocError> {
     let end = text.len();
     let at = dice.below(end as u64) as usize;
-    let byte = odd_byte(dice);
+    let behind = at.wrapping_add(1);
+    let byte = one_of(dice, BYTES, b'?');
     match dice.below(8) {
         0 => spliced(heap, text, at, end, &[]),
-        1 => spliced(heap, text, at, at.wrapping_add(1), &[]),
+        1 => spliced(heap, text, at, behind, &[]),
         2 => spliced(heap, text, at, at, &[byte]),
-        3 => spliced(heap, text, at, at.wrapping_add(1), &[byte]),
+        3 => spliced(heap, text, at, behind, &[byte]),
         4 => spliced(heap, text, end, end, &[byte]),
-        5 => spliced(
-            heap,
-            text,
-            run_start(text, at),
-            run_end(text, at),
-            odd_run(dice).as_bytes(),
-        ),
+        5 => with_run(heap, text, at, one_of(dice, &RUNS, "-").as_bytes()),
         _ => {
             let n = odd_number(dice, field);
-            let number = format!(in heap; "{n}")?;
-            spliced(
-                heap,
-                text,
-                run_start(text, at),
-                run_end(text, at),
-                number.as_bytes(),
-            )
+            with_run(heap, text, at, format!(in heap; "{n}")?.as_bytes())
         }
     }
 }
 
-// A sheet with more spaces and zeros, which says the same as long as no number grows past ten digits.
+// A sheet with more spaces and zeros, which says the same as long as no number grows past ten digits. A chain would be
+// no plainer: a byte becomes one, two or three, by the byte before and by the dice.
 pub fn respaced(heap: Global, dice: &mut Dice, text: &[u8]) -> Result<Vec<u8>, AllocError> {
     let mut all = Vec::new(heap);
     let mut before = b' ';

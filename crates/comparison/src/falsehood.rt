@@ -1,32 +1,39 @@
 // Sheets that say something else than the honest one.
-use crate::dice::Dice;
+use crate::table::Table;
 use reference::{Arithmetic, Element, Sheet, Standing};
 use std::alloc::{AllocError, Global};
 
-// The values, each at j with c × (j − r) added: at r they are as they were.
-fn slipped(
-    heap: Global,
-    field: Arithmetic,
-    values: &[Element],
+// A slip: at j it adds c × (j − r) to a value, and at r it leaves the value as it was.
+#[derive(Clone, Copy)]
+struct Slip {
     c: i64,
     r: i64,
-) -> Result<Vec<Element>, AllocError> {
-    let mut all = Vec::new(heap);
-    for (j, value) in values.iter().enumerate() {
-        let step = i64::try_from(j).unwrap_or(0).wrapping_sub(r);
-        all.push(field.sum(*value, field.image(c.wrapping_mul(step))))?;
-    }
-    Ok(all)
 }
 
-// How much slipping adds to the sum over the rows.
-fn slip_sum(at: Standing, c: i64, r: i64) -> i64 {
-    let mut all = 0i64;
-    for x in 0..at.rows {
-        let step = i64::try_from(x).unwrap_or(0).wrapping_sub(r);
-        all = all.wrapping_add(c.wrapping_mul(step));
+impl Slip {
+    fn at(self, j: u64) -> i64 {
+        let step = i64::try_from(j).unwrap_or(0).wrapping_sub(self.r);
+        self.c.wrapping_mul(step)
     }
-    all
+
+    // How much it adds to the sum over the rows.
+    fn sum(self, at: Standing) -> i64 {
+        (0..at.rows).fold(0i64, |all, x| all.wrapping_add(self.at(x)))
+    }
+
+    // The values, slipped.
+    fn slipped(
+        self,
+        heap: Global,
+        field: Arithmetic,
+        values: &[Element],
+    ) -> Result<Vec<Element>, AllocError> {
+        values
+            .iter()
+            .enumerate()
+            .map(|(j, value)| field.sum(*value, field.image(self.at(j as u64))))
+            .collect(heap)
+    }
 }
 
 // The values, one of them another.
@@ -36,22 +43,23 @@ fn replaced(
     k: usize,
     new: Element,
 ) -> Result<Vec<Element>, AllocError> {
-    let mut all = Vec::new(heap);
-    for (j, value) in values.iter().enumerate() {
-        all.push(if j == k { new } else { *value })?;
+    let mut all = values.to_vec(heap)?;
+    if let Some(value) = all.get_mut(k) {
+        *value = new;
     }
     Ok(all)
 }
 
 // A claim and values near the honest ones.
 pub fn falsified(
-    heap: Global,
-    dice: &mut Dice,
-    field: Arithmetic,
+    table: &mut Table,
     at: Standing,
     claim: i64,
     values: &[Element],
 ) -> Result<Sheet, AllocError> {
+    let heap = table.heap;
+    let field = table.field;
+    let dice = &mut table.dice;
     let c = dice.between(-3, 3);
     let p = i64::try_from(field.p).unwrap_or(0);
     let k = dice.below(values.len() as u64) as usize;
@@ -61,14 +69,17 @@ pub fn falsified(
         1 => (claim.wrapping_add(p.wrapping_mul(c)), values.to_vec(heap)?),
         2 => (claim, replaced(heap, values, k, any)?),
         3 => {
-            let first = values.get(0).copied().unwrap_or(Element::zero());
+            let first = values.first().copied().unwrap_or(Element::zero());
             let raised = field.sum(first, field.image(c));
             (claim.wrapping_add(c), replaced(heap, values, 0, raised)?)
         }
         _ => {
             let r = dice.between(0, i64::try_from(values.len()).unwrap_or(0));
-            let sum = slip_sum(at, c, r);
-            (claim.wrapping_add(sum), slipped(heap, field, values, c, r)?)
+            let slip = Slip { c, r };
+            (
+                claim.wrapping_add(slip.sum(at)),
+                slip.slipped(heap, field, values)?,
+            )
         }
     };
     Ok(Sheet { claim, values })

@@ -1,15 +1,14 @@
 // Whole games: both ends opened, told moves, sealed and asked.
-use crate::convert::{elements, same_counts, same_elements};
+use crate::both::Listening;
+use crate::convert::{same, same_elements};
 use crate::dice::Dice;
-use crate::hosts::{HostPair, open_hosts};
-use crate::memory::{any_counts, any_elements, short_counts};
+use crate::memory::{any_counts, any_elements};
+use crate::outcome::{number_of, wanted};
 use crate::questions::{any_ask, inquire_any};
-use crate::sealed::SealedPair;
 use crate::table::Table;
-use crate::verifiers::{VerifierPair, open_verifiers};
-use board::{Bank, Move};
+use board::Move;
 use field::Field;
-use reference::{Element, Ledger, Standing, Stop, columns_at};
+use reference::{Element, Ledger, Stop};
 use std::alloc::AllocError;
 
 // The sizes of a game.
@@ -46,13 +45,9 @@ pub fn any_move(dice: &mut Dice, cells: u64) -> Move {
 // A secret point: often a small number, as a row's.
 fn any_point(table: &mut Table, rows: u64) -> Element {
     if table.dice.one_in(2) {
-        Element {
-            low: table.dice.below(rows.saturating_mul(2)),
-            high: 0,
-        }
+        Element::whole(table.dice.below(rows.saturating_mul(2)))
     } else {
-        let field = table.field;
-        table.dice.element(field)
+        table.dice.element(table.field)
     }
 }
 
@@ -60,57 +55,49 @@ fn any_point(table: &mut Table, rows: u64) -> Element {
 fn tell<F: Field>(
     table: &mut Table,
     ledger: &mut Ledger,
-    host: &mut HostPair<F>,
-    counts: &mut Bank<'_, i32>,
-    verifier: &mut VerifierPair<F>,
-    sums: &mut Bank<'_, F>,
+    both: &mut Listening<F>,
     m: Move,
-) {
-    let wanted = match ledger.note(m.cell, m.amount) {
-        Ok(()) => 0,
-        Err(Stop::Refusal { number, .. }) => number,
-        Err(Stop::Memory) => 63,
-    };
-    let at_host = host.note(table, counts, m);
-    let at_verifier = verifier.note(table, sums, m);
-    table
-        .report
-        .same("the ledger's answer, at the host", at_host.number, wanted);
-    table.report.same(
-        "the ledger's answer, at the box",
-        at_verifier.number,
-        wanted,
-    );
-    table.report.same(
+) -> Result<(), AllocError> {
+    let told = number_of(&wanted(ledger.note(m.cell, m.amount))?);
+    let (at_host, at_verifier) = both.note(table, m)?;
+    let report = &mut table.report;
+    report.number("the ledger's answer, at the host", &at_host, told);
+    report.number("the ledger's answer, at the box", &at_verifier, told);
+    report.same(
         "the ledger's weight",
-        host.standing.weight,
+        both.host.standing.weight,
         ledger.standing().weight,
     );
+    Ok(())
 }
 
 // Holds the banks to what the ledger's counts come to.
 fn compare_banks<F: Field>(
     table: &mut Table,
     ledger: &Ledger,
-    at: Standing,
-    point: Element,
-    counts: &Bank<'_, i32>,
-    sums: &Bank<'_, F>,
+    both: &Listening<F>,
 ) -> Result<(), AllocError> {
-    let all = ledger.all_counts(table.heap)?;
-    let columns = columns_at(
-        table.heap,
-        table.field,
-        at.rows,
-        at.columns,
-        all.as_slice(),
-        point,
-    )?;
-    let front = counts.cells().get(0..at.cells() as usize).unwrap_or(&[]);
-    table
-        .report
-        .holds("the ledger's counts", same_counts(front, all.as_slice()));
-    let front = sums.cells().get(0..at.columns as usize).unwrap_or(&[]);
+    let at = both.host.standing;
+    let counts = ledger.all_counts(table.heap)?;
+    let columns = table
+        .game(at)
+        .columns_at(counts.as_slice(), both.verifier.secret)?;
+    let front = both
+        .host
+        .cells
+        .as_slice()
+        .get(0..at.cells() as usize)
+        .unwrap_or(&[]);
+    table.report.holds(
+        "the ledger's counts",
+        same(front, counts.as_slice(), |count| i64::from(count)),
+    );
+    let front = both
+        .verifier
+        .cells
+        .as_slice()
+        .get(0..at.columns as usize)
+        .unwrap_or(&[]);
     table.report.holds(
         "the columns of the ledger's counts",
         same_elements(front, columns.as_slice()),
@@ -119,96 +106,36 @@ fn compare_banks<F: Field>(
 }
 
 // Plays on from the opened ends.
-fn play_on<F: Field>(
-    table: &mut Table,
-    plan: Plan,
-    host: HostPair<F>,
-    counts: &mut Bank<'_, i32>,
-    verifier: VerifierPair<F>,
-    sums: &mut Bank<'_, F>,
-) -> Result<(), Stop> {
-    let mut host = host;
-    let mut verifier = verifier;
-    let at = host.standing;
+fn play_on<F: Field>(table: &mut Table, plan: Plan, both: Listening<F>) -> Result<(), Stop> {
+    let mut both = both;
+    let at = both.host.standing;
     let mut ledger = Ledger::open(table.heap, at.rows, at.columns, at.limit)?;
     for _ in 0..plan.moves {
         let m = any_move(&mut table.dice, at.cells());
-        tell(
-            table,
-            &mut ledger,
-            &mut host,
-            counts,
-            &mut verifier,
-            sums,
-            m,
-        );
+        tell(table, &mut ledger, &mut both, m)?;
     }
-    host.compare_bank(table, counts);
-    verifier.compare_bank(table, sums);
-    compare_banks(table, &ledger, at, verifier.point, counts, sums)?;
-    let sealed = sealed_pair(host, verifier);
+    both.host.compare_bank(table);
+    both.verifier.compare_bank(table);
+    compare_banks(table, &ledger, &both)?;
+    let mut sealed = both.seal();
     for _ in 0..plan.questions {
         let ask = any_ask(&mut table.dice, at);
-        inquire_any(table, &sealed, counts, sums, ask, plan.sheets)?;
+        inquire_any(table, &mut sealed, ask, plan.sheets)?;
     }
     Ok(())
-}
-
-// Seals both ends.
-pub fn sealed_pair<F: Field>(host: HostPair<F>, verifier: VerifierPair<F>) -> SealedPair<F> {
-    SealedPair {
-        host_at: host.standing,
-        host: host.product.seal(),
-        counts: host.counts,
-        verifier_at: verifier.standing,
-        verifier: verifier.product.seal(),
-        point: verifier.point,
-        sums: verifier.sums,
-    }
-}
-
-fn sized(n: u64, spare: i64) -> u64 {
-    n.saturating_add_signed(spare)
 }
 
 // Plays a game over a field.
 pub fn play<F: Field>(table: &mut Table, plan: Plan) -> Result<(), Stop> {
     table.report.next_game();
-    let heap = table.heap;
-    let field = table.field;
     let cells = plan.rows.saturating_mul(plan.columns).min(65_536);
-    let plain_counts = any_counts(heap, &mut table.dice, sized(cells, plan.spare))?;
-    let plain_sums = any_elements(
-        heap,
-        &mut table.dice,
-        field,
-        sized(plan.columns.min(1024), plan.spare),
-    )?;
-    let mut counts = short_counts(heap, plain_counts.as_slice())?;
-    let mut sums: Vec<F> = elements(heap, plain_sums.as_slice())?;
-    let mut count_bank = Bank::new(counts.as_mut_slice());
-    let mut sum_bank = Bank::new(sums.as_mut_slice());
+    let cells = cells.saturating_add_signed(plan.spare);
+    let width = plan.columns.min(1024).saturating_add_signed(plan.spare);
+    let counts = any_counts(table.heap, &mut table.dice, cells)?;
+    let sums = any_elements(table.heap, &mut table.dice, table.field, width)?;
     let point = any_point(table, plan.rows);
-    let host = open_hosts::<F>(
-        table,
-        plan.rows,
-        plan.columns,
-        &mut count_bank,
-        plain_counts,
-    );
-    let verifier = open_verifiers(
-        table,
-        plan.rows,
-        plan.columns,
-        point,
-        &mut sum_bank,
-        plain_sums,
-    );
-    let Some(host) = host else {
-        return Ok(());
-    };
-    let Some(verifier) = verifier else {
-        return Ok(());
-    };
-    play_on(table, plan, host, &mut count_bank, verifier, &mut sum_bank)
+    match Listening::<F>::open(table, plan.rows, plan.columns, point, counts, sums)? {
+        Some(both) => play_on(table, plan, both),
+        None => Ok(()),
+    }
 }

@@ -1,100 +1,63 @@
 // Reading and judging sheets in the product and in the reference.
+use crate::call::Call;
 use crate::convert::{elements, same_elements};
+use crate::inquiry::Inquiry;
 use crate::memory::any_elements;
-use crate::outcome::Outcome;
-use crate::report::Call;
-use crate::sealed::SealedPair;
+use crate::outcome::{Outcome, found, wanted};
 use crate::table::Table;
-use board::{Bank, Refusal};
 use field::Field;
 use protocol::terms_of;
 use question::Question;
-use reference::{Ask, Stop, judge, read_into};
 use sheet::read_sheet;
 use std::alloc::AllocError;
 
-// A claim, or a refusal.
-fn claim_found(answer: Result<i64, Refusal>) -> Outcome {
-    match answer {
-        Ok(claim) => Outcome::given(claim, 0),
-        Err(refusal) => Outcome::refused(refusal),
+impl<'a, F: Field, Q: Question<F>> Inquiry<'a, F, Q> {
+    // Reads a sheet into trays of any content.
+    pub fn compare_reading(
+        &mut self,
+        table: &mut Table,
+        sheet: &[u8],
+        room: u64,
+    ) -> Result<(), AllocError> {
+        let heap = table.heap;
+        let mut plain_tray = any_elements(heap, &mut table.dice, table.field, room)?;
+        let mut tray: Vec<F> = elements(heap, plain_tray.as_slice())?;
+        let terms = terms_of(self.question, self.sealed.verifier.book().grid());
+        let read = found(read_sheet(sheet, &terms, tray.as_mut_slice()));
+        let game = table.game(self.sealed.verifier_at);
+        let plain = wanted(game.read_into(self.ask, sheet, plain_tray.as_mut_slice()))?;
+        table
+            .report
+            .outcome(Call::Read, "a reading", &read, &plain)?;
+        let same = same_elements(tray.as_slice(), plain_tray.as_slice());
+        table.report.holds("the tray after a reading", same);
+        Ok(())
     }
-}
 
-fn claim_wanted(answer: Result<i64, Stop>) -> Outcome {
-    match answer {
-        Ok(claim) => Outcome::given(claim, 0),
-        Err(stop) => Outcome::stopped(stop),
+    // Judges a sheet, with trays of any content.
+    pub fn compare_judgement(
+        &mut self,
+        table: &mut Table,
+        sheet: &[u8],
+        room: u64,
+    ) -> Result<Outcome<i64>, AllocError> {
+        let heap = table.heap;
+        let mut plain_tray = any_elements(heap, &mut table.dice, table.field, room)?;
+        let mut tray: Vec<F> = elements(heap, plain_tray.as_slice())?;
+        let judged = self.sealed.judge(self.question, sheet, tray.as_mut_slice());
+        let plain = table.game(self.sealed.verifier_at).judge(
+            self.sealed.point,
+            self.sealed.plain_sums.as_slice(),
+            self.ask,
+            sheet,
+            plain_tray.as_mut_slice(),
+        );
+        let plain = wanted(plain)?;
+        table
+            .report
+            .outcome(Call::Judge, "a judgement", &judged, &plain)?;
+        let same = same_elements(tray.as_slice(), plain_tray.as_slice());
+        table.report.holds("the tray after a judgement", same);
+        Ok(judged)
     }
-}
-
-// Reads a sheet into trays of any content.
-pub fn compare_reading<F: Field, Q: Question<F>>(
-    table: &mut Table,
-    sealed: &SealedPair<F>,
-    question: &Q,
-    ask: Ask,
-    sheet: &[u8],
-    room: u64,
-) -> Result<(), AllocError> {
-    let heap = table.heap;
-    let field = table.field;
-    let mut plain_tray = any_elements(heap, &mut table.dice, field, room)?;
-    let mut tray: Vec<F> = elements(heap, plain_tray.as_slice())?;
-    let terms = terms_of(question, sealed.verifier.book().grid());
-    let read = read_sheet(sheet, &terms, tray.as_mut_slice());
-    let plain = read_into(
-        heap,
-        field,
-        sealed.verifier_at,
-        ask,
-        sheet,
-        plain_tray.as_mut_slice(),
-    );
-    table.report.outcome(
-        Call::Read,
-        "a reading",
-        claim_found(read),
-        claim_wanted(plain),
-    );
-    let same = same_elements(tray.as_slice(), plain_tray.as_slice());
-    table.report.holds("the tray after a reading", same);
-    Ok(())
-}
-
-// Judges a sheet, with trays of any content.
-pub fn compare_judgement<F: Field, Q: Question<F>>(
-    table: &mut Table,
-    sealed: &SealedPair<F>,
-    bank: &Bank<'_, F>,
-    question: &Q,
-    ask: Ask,
-    sheet: &[u8],
-    room: u64,
-) -> Result<Outcome, AllocError> {
-    let heap = table.heap;
-    let field = table.field;
-    let mut plain_tray = any_elements(heap, &mut table.dice, field, room)?;
-    let mut tray: Vec<F> = elements(heap, plain_tray.as_slice())?;
-    let judged = sealed
-        .verifier
-        .judge(bank, question, sheet, tray.as_mut_slice());
-    let known = sealed.sums.as_slice().get(0..bank.len()).unwrap_or(&[]);
-    let plain = judge(
-        heap,
-        field,
-        sealed.verifier_at,
-        sealed.point,
-        known,
-        ask,
-        sheet,
-        plain_tray.as_mut_slice(),
-    );
-    let found = claim_found(judged);
-    table
-        .report
-        .outcome(Call::Judge, "a judgement", found, claim_wanted(plain));
-    let same = same_elements(tray.as_slice(), plain_tray.as_slice());
-    table.report.holds("the tray after a judgement", same);
-    Ok(found)
 }

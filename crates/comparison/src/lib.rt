@@ -3,10 +3,14 @@
 
 mod answers;
 mod arithmetic;
+mod both;
+mod call;
 mod convert;
 mod damage;
 mod dice;
+mod difference;
 mod edges;
+mod ends;
 mod falsehood;
 mod games;
 mod hosts;
@@ -27,14 +31,14 @@ mod worked;
 mod writings;
 
 pub use arithmetic::compare_arithmetic;
+pub use call::Call;
 pub use dice::Dice;
+pub use difference::Difference;
 pub use edges::play_edges;
 pub use games::{Plan, play};
-pub use hosts::{HostPair, open_hosts};
 pub use limits::{fill_weight, open_grid};
-pub use outcome::Outcome;
+pub use outcome::{Outcome, Refused};
 pub use planted::see_planted;
-pub use report::{Call, Difference, Report};
+pub use report::Report;
 pub use table::Table;
-pub use verifiers::{VerifierPair, open_verifiers};
 pub use worked::play_worked;

@@ -1,45 +1,12 @@
 // What a question says of itself, in the product and in the reference.
 use crate::convert::{element, elements, parts};
+use crate::inquiry::Inquiry;
 use crate::table::Table;
 use board::Grid;
 use field::Field;
 use question::{Fit, Question};
-use reference::{Ask, Element, Standing, columns_at};
+use reference::Element;
 use std::alloc::AllocError;
-
-// Fit, degree, limits and tag.
-pub fn compare_meaning<F: Field, Q: Question<F>>(
-    table: &mut Table,
-    grid: Grid,
-    at: Standing,
-    question: &Q,
-    ask: Ask,
-) {
-    let fits = match question.fit(grid) {
-        Fit::Fits => true,
-        Fit::DoesNotFit => false,
-    };
-    table
-        .report
-        .holds("whether a question fits", fits == ask.fits(at));
-    table.report.same("a degree", u64::from(question.degree(grid)), ask.degree(at));
-    let (least, greatest) = ask.limits(table.field.limit);
-    table
-        .report
-        .holds("the least claim", question.least() == least);
-    table
-        .report
-        .holds("the greatest claim", question.greatest() == greatest);
-    let tag = question.tag();
-    let (kind, first, second) = ask.tag();
-    table
-        .report
-        .same("the kind of a tag", u64::from(tag.kind), kind);
-    table
-        .report
-        .same("the first number of a tag", u64::from(tag.first), first);
-    table.report.same("the second number of a tag", u64::from(tag.second), second);
-}
 
 // The rule of a question that fits, at a point on columns of the grid's number.
 fn rule_of<F: Field, Q: Question<F>>(
@@ -49,40 +16,66 @@ fn rule_of<F: Field, Q: Question<F>>(
     columns: &[F],
 ) -> Option<F> {
     match question.fit(grid) {
-        Fit::Fits => {
-            if columns.len() == grid.columns() as usize {
-                Some(question.rule(grid, point, columns))
-            } else {
-                None
-            }
+        Fit::Fits if columns.len() == grid.columns() as usize => {
+            Some(question.rule(grid, point, columns))
         }
-        Fit::DoesNotFit => None,
+        _ => None,
     }
 }
 
-// The rule at a point, on the columns of the counts there.
-pub fn compare_rule<F: Field, Q: Question<F>>(
-    table: &mut Table,
-    grid: Grid,
-    at: Standing,
-    counts: &[i64],
-    question: &Q,
-    ask: Ask,
-    point: Element,
-) -> Result<(), AllocError> {
-    let heap = table.heap;
-    let field = table.field;
-    let plain_columns = columns_at(heap, field, at.rows, at.columns, counts, point)?;
-    let columns: Vec<F> = elements(heap, plain_columns.as_slice())?;
-    if let Some(value) = rule_of(question, grid, element(point), columns.as_slice()) {
-        let wanted = ask.rule(heap, field, at, point, plain_columns.as_slice())?;
-        let found = parts(value);
-        table
-            .report
-            .same("the low part of a rule", found.low, wanted.low);
-        table
-            .report
-            .same("the high part of a rule", found.high, wanted.high);
+impl<'a, F: Field, Q: Question<F>> Inquiry<'a, F, Q> {
+    // Fit, degree, limits and tag.
+    pub fn compare_meaning(&self, table: &mut Table) {
+        let question = self.question;
+        let grid = self.grid();
+        let at = self.sealed.host_at;
+        let limits = self.ask.limits(table.field.limit);
+        let wanted = self.ask.tag();
+        let tag = question.tag();
+        let fits = matches!(question.fit(grid), Fit::Fits);
+        let report = &mut table.report;
+        report.holds("whether a question fits", fits == self.ask.fits(at));
+        report.same(
+            "a degree",
+            u64::from(question.degree(grid)),
+            self.ask.degree(at),
+        );
+        report.holds("the least claim", question.least() == limits.least);
+        report.holds("the greatest claim", question.greatest() == limits.greatest);
+        report.same("the kind of a tag", u64::from(tag.kind), wanted.kind);
+        report.same(
+            "the first number of a tag",
+            u64::from(tag.first),
+            wanted.first,
+        );
+        report.same(
+            "the second number of a tag",
+            u64::from(tag.second),
+            wanted.second,
+        );
     }
-    Ok(())
+
+    // The rule at a point, on the columns of the counts there.
+    pub fn compare_rule(&self, table: &mut Table, point: Element) -> Result<(), AllocError> {
+        let game = table.game(self.sealed.host_at);
+        let plain_columns = game.columns_at(self.sealed.plain_counts.as_slice(), point)?;
+        let columns: Vec<F> = elements(table.heap, plain_columns.as_slice())?;
+        let rule = rule_of(
+            self.question,
+            self.grid(),
+            element(point),
+            columns.as_slice(),
+        );
+        if let Some(value) = rule {
+            let wanted = game.rule(self.ask, point, plain_columns.as_slice())?;
+            let found = parts(value);
+            table
+                .report
+                .same("the low part of a rule", found.low, wanted.low);
+            table
+                .report
+                .same("the high part of a rule", found.high, wanted.high);
+        }
+        Ok(())
+    }
 }

@@ -9,34 +9,15 @@ pub fn any_elements(
     field: Arithmetic,
     n: u64,
 ) -> Result<Vec<Element>, AllocError> {
-    let mut all = Vec::new(heap);
-    for _ in 0..n {
-        all.push(dice.element(field))?;
-    }
-    Ok(all)
+    (0..n).map(|_| dice.element(field)).collect(heap)
 }
 
 pub fn any_counts(heap: Global, dice: &mut Dice, n: u64) -> Result<Vec<i64>, AllocError> {
-    let mut all = Vec::new(heap);
-    for _ in 0..n {
-        all.push(dice.between(-100_000, 100_000))?;
-    }
-    Ok(all)
-}
-
-// The counts as the product keeps them.
-pub fn short_counts(heap: Global, counts: &[i64]) -> Result<Vec<i32>, AllocError> {
-    let mut all = Vec::new(heap);
-    for count in counts {
-        all.push(i32::try_from(*count).unwrap_or(0))?;
-    }
-    Ok(all)
+    (0..n)
+        .map(|_| dice.between(-100_000, 100_000))
+        .collect(heap)
 }
 
 pub fn any_bytes(heap: Global, dice: &mut Dice, n: u64) -> Result<Vec<u8>, AllocError> {
-    let mut all = Vec::new(heap);
-    for _ in 0..n {
-        all.push((dice.next() & 255) as u8)?;
-    }
-    Ok(all)
+    (0..n).map(|_| (dice.next() & 255) as u8).collect(heap)
 }

@@ -1,67 +1,63 @@
-// What a call came to, in plain numbers.
-use board::Refusal;
-use reference::Stop;
+// What a call came to: what it gave, or a refusal in plain numbers, alike for the product and for the reference.
+use reference::{Position, Stop};
+use std::alloc::AllocError;
 
+// A refusal: its number in the table, and where a sheet's fault lies.
 #[derive(Clone, Copy, PartialEq, Eq, Debug)]
-pub struct Outcome {
-    // The number of the refusal; 0 where there is none.
+pub struct Refused {
     pub number: u64,
-    // Line and place of a sheet's fault.
-    pub line: u64,
-    pub place: u64,
-    // What was given: a claim, a length.
-    pub value: i64,
-    pub length: u64,
+    pub position: Option<Position>,
 }
 
-impl Outcome {
-    pub fn given(value: i64, length: u64) -> Outcome {
-        Outcome {
-            number: 0,
-            line: 0,
-            place: 0,
-            value,
-            length,
-        }
-    }
+pub type Outcome<T> = Result<T, Refused>;
 
-    // A refusal of the product.
-    pub fn refused(refusal: Refusal) -> Outcome {
-        let (line, place) = refusal.position().unwrap_or((0, 0));
-        Outcome {
+impl From<board::Refusal> for Refused {
+    fn from(refusal: board::Refusal) -> Refused {
+        Refused {
             number: u64::from(refusal.number()),
-            line: line as u64,
-            place: place as u64,
-            value: 0,
-            length: 0,
+            position: refusal.position().map(|(line, place)| Position {
+                line: line as u64,
+                place: place as u64,
+            }),
         }
     }
+}
 
-    // A refusal of the reference. No memory has a number of its own, which no refusal has.
-    pub fn stopped(stop: Stop) -> Outcome {
-        let (number, line, place) = match stop {
-            Stop::Refusal {
-                number,
-                line,
-                place,
-            } => (number, line, place),
-            Stop::Memory => (63, 0, 0),
-        };
-        Outcome {
-            number,
-            line,
-            place,
-            value: 0,
-            length: 0,
+impl From<reference::Refusal> for Refused {
+    fn from(refusal: reference::Refusal) -> Refused {
+        Refused {
+            number: refusal.number(),
+            position: refusal.position(),
         }
     }
+}
 
-    // Whether two calls came to the same.
-    pub fn is_same(self, other: Outcome) -> bool {
-        self.number == other.number
-            && self.line == other.line
-            && self.place == other.place
-            && self.value == other.value
-            && self.length == other.length
+// What a call of the product came to.
+pub fn found<T>(answer: Result<T, board::Refusal>) -> Outcome<T> {
+    answer.map_err(Refused::from)
+}
+
+// What a call of the reference came to, unless there was no memory for it.
+pub fn wanted<T>(answer: Result<T, Stop>) -> Result<Outcome<T>, AllocError> {
+    match answer {
+        Ok(given) => Ok(Ok(given)),
+        Err(Stop::Refused(refusal)) => Ok(Err(Refused::from(refusal))),
+        Err(Stop::Memory(e)) => Err(e),
+    }
+}
+
+// The outcome without what was given.
+pub fn bare<T>(outcome: &Outcome<T>) -> Outcome<()> {
+    match outcome {
+        Ok(_) => Ok(()),
+        Err(refused) => Err(*refused),
+    }
+}
+
+// The number of the refusal, if it is one.
+pub fn number_of<T>(outcome: &Outcome<T>) -> Option<u64> {
+    match outcome {
+        Ok(_) => None,
+        Err(refused) => Some(refused.number),
     }
 }

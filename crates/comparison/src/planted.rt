@@ -7,9 +7,9 @@ use prime::Mod65537;
 use reference::{Arithmetic, Stop};
 use std::alloc::Global;
 
-// A game in which the reference is told another field than the product's.
-fn planted_game(heap: Global, field: Arithmetic) -> Result<u64, Stop> {
-    let mut table = Table::new(heap, 99)?;
+// Whether a game differs in which the reference is told another field than the product's.
+fn differs(heap: Global, field: Arithmetic) -> Result<bool, Stop> {
+    let mut table = Table::new(heap, 99);
     table.field = field;
     let plan = Plan {
         rows: 3,
@@ -20,47 +20,30 @@ fn planted_game(heap: Global, field: Arithmetic) -> Result<u64, Stop> {
         sheets: 1,
     };
     play::<Mod65537>(&mut table, plan)?;
-    Ok(table.report.differing())
+    Ok(table.report.differing() > 0)
 }
 
 // How many of the planted differences are reported, of how many.
 pub fn see_planted(heap: Global) -> Result<(u64, u64), Stop> {
+    let mut table = Table::new(heap, 99);
+    let field = table.field;
     let mut seen = 0u64;
-    let fields = [
+    for other in [
+        Arithmetic { p: 65_539, ..field },
+        Arithmetic { e: 2, ..field },
         Arithmetic {
-            p: 65_539,
-            e: 1,
-            w: 3,
-            limit: 256,
-        },
-        Arithmetic {
-            p: 65_537,
-            e: 2,
-            w: 3,
-            limit: 256,
-        },
-        Arithmetic {
-            p: 65_537,
-            e: 1,
-            w: 3,
             limit: 255,
+            ..field
         },
-    ];
-    for field in fields {
-        if planted_game(heap, field)? > 0 {
-            seen = seen.wrapping_add(1);
-        }
+    ] {
+        seen = seen.wrapping_add(u64::from(differs(heap, other)?));
     }
-    let mut table = Table::new(heap, 99)?;
     table.field = Arithmetic {
-        p: 65_537,
         e: 2,
         w: 5,
-        limit: 256,
+        ..field
     };
     compare_arithmetic::<Extension<Mod65537>>(&mut table, 5);
-    if table.report.differing() > 0 {
-        seen = seen.wrapping_add(1);
-    }
+    seen = seen.wrapping_add(u64::from(table.report.differing() > 0));
     Ok((seen, 4))
 }

@@ -1,10 +1,9 @@
 // Questions for generated games, asked through their own types and through the mixture of all four.
 use crate::dice::Dice;
-use crate::inquiry::inquire;
-use crate::sealed::SealedPair;
+use crate::inquiry::Inquiry;
+use crate::sealed::Sealed;
 use crate::stated::Stated;
 use crate::table::Table;
-use board::Bank;
 use field::Field;
 use reference::{Ask, Standing};
 use season::{Cell, Goods, Range, Season, Squares};
@@ -39,60 +38,49 @@ fn number(n: u64) -> u32 {
     u32::try_from(n).unwrap_or(0)
 }
 
-// The same question in the type that holds any of the four.
-fn mixed(ask: Ask) -> Season {
+fn cell(i: u64) -> Cell {
+    Cell { index: number(i) }
+}
+
+fn goods(g: u64) -> Goods {
+    Goods { kind: number(g) }
+}
+
+fn range(a: u64, b: u64) -> Range {
+    Range {
+        first: number(a),
+        last: number(b),
+    }
+}
+
+// The same question in the type that holds any of the four, if it is one of them.
+fn mixed(ask: Ask) -> Option<Season> {
     match ask {
-        Ask::Cell(i) => Season::Cell(Cell { index: number(i) }),
-        Ask::Goods(g) => Season::Goods(Goods { kind: number(g) }),
-        Ask::Range(a, b) => Season::Range(Range {
-            first: number(a),
-            last: number(b),
-        }),
-        _ => Season::Squares(Squares),
+        Ask::Cell(i) => Some(Season::Cell(cell(i))),
+        Ask::Goods(g) => Some(Season::Goods(goods(g))),
+        Ask::Range(a, b) => Some(Season::Range(range(a, b))),
+        Ask::Squares => Some(Season::Squares(Squares)),
+        Ask::Stated(_) => None,
     }
 }
 
 // Asks a question through its own type.
 fn inquire_plainly<F: Field>(
     table: &mut Table,
-    sealed: &SealedPair<F>,
-    counts: &Bank<'_, i32>,
-    sums: &Bank<'_, F>,
+    sealed: &mut Sealed<F>,
     ask: Ask,
     times: u64,
 ) -> Result<(), AllocError> {
     match ask {
-        Ask::Cell(i) => inquire(
-            table,
-            sealed,
-            counts,
-            sums,
-            &Cell { index: number(i) },
-            ask,
-            times,
-        ),
-        Ask::Goods(g) => inquire(
-            table,
-            sealed,
-            counts,
-            sums,
-            &Goods { kind: number(g) },
-            ask,
-            times,
-        ),
-        Ask::Range(a, b) => {
-            let range = Range {
-                first: number(a),
-                last: number(b),
-            };
-            inquire(table, sealed, counts, sums, &range, ask, times)
-        }
-        Ask::Squares => inquire(table, sealed, counts, sums, &Squares, ask, times),
+        Ask::Cell(i) => Inquiry::new(sealed, &cell(i), ask).inquire(table, times),
+        Ask::Goods(g) => Inquiry::new(sealed, &goods(g), ask).inquire(table, times),
+        Ask::Range(a, b) => Inquiry::new(sealed, &range(a, b), ask).inquire(table, times),
+        Ask::Squares => Inquiry::new(sealed, &Squares, ask).inquire(table, times),
         Ask::Stated(degree) => {
             let stated = Stated {
                 degree: number(degree),
             };
-            inquire(table, sealed, counts, sums, &stated, ask, times)
+            Inquiry::new(sealed, &stated, ask).inquire(table, times)
         }
     }
 }
@@ -100,19 +88,14 @@ fn inquire_plainly<F: Field>(
 // Asks a question, through its own type or the mixture.
 pub fn inquire_any<F: Field>(
     table: &mut Table,
-    sealed: &SealedPair<F>,
-    counts: &Bank<'_, i32>,
-    sums: &Bank<'_, F>,
+    sealed: &mut Sealed<F>,
     ask: Ask,
     times: u64,
 ) -> Result<(), AllocError> {
-    let stated = match ask {
-        Ask::Stated(_) => true,
-        _ => false,
-    };
-    if stated || table.dice.one_in(2) {
-        inquire_plainly(table, sealed, counts, sums, ask, times)
-    } else {
-        inquire(table, sealed, counts, sums, &mixed(ask), ask, times)
+    match mixed(ask) {
+        Some(season) if !table.dice.one_in(2) => {
+            Inquiry::new(sealed, &season, ask).inquire(table, times)
+        }
+        _ => inquire_plainly(table, sealed, ask, times),
     }
 }

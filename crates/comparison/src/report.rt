@@ -1,31 +1,9 @@
 // What was compared, what came of it, and every difference.
-use crate::outcome::Outcome;
+use crate::call::Call;
+use crate::difference::Difference;
+use crate::outcome::{Outcome, number_of};
 use std::alloc::{AllocError, Global};
-
-// What is compared.
-#[derive(Clone, Copy)]
-pub enum Call {
-    OpenHost = 0,
-    OpenBox = 1,
-    NoteHost = 2,
-    NoteBox = 3,
-    Answer = 4,
-    Judge = 5,
-    Read = 6,
-    Write = 7,
-}
-
-// A difference: the game, what differs, and both values.
-#[derive(Clone, Copy)]
-pub struct Difference {
-    pub game: u64,
-    pub what: &'static str,
-    pub found: u64,
-    pub wanted: u64,
-}
-
-// Refusal numbers are below this, and calls too.
-const NUMBERS: usize = 64;
+use std::collections::BTreeMap;
 
 // Not more differences than these are kept.
 const KEPT: usize = 20;
@@ -36,18 +14,19 @@ pub struct Report {
     compared: u64,
     differing: u64,
     kept: Vec<Difference>,
-    outcomes: Vec<u64>,
+    // How often a call came to a refusal's number, or to none.
+    outcomes: BTreeMap<(Call, Option<u64>), u64>,
 }
 
 impl Report {
-    pub fn new(heap: Global) -> Result<Report, AllocError> {
-        Ok(Report {
+    pub fn new(heap: Global) -> Report {
+        Report {
             game: 0,
             compared: 0,
             differing: 0,
             kept: Vec::new(heap),
-            outcomes: vec![in heap; 0; 512]?,
-        })
+            outcomes: BTreeMap::new(heap),
+        }
     }
 
     // From here on the next game is played.
@@ -61,6 +40,7 @@ impl Report {
         if found != wanted {
             self.differing = self.differing.wrapping_add(1);
             if self.kept.len() < KEPT {
+                // A difference that finds no memory is counted all the same.
                 let _ = self.kept.push(Difference {
                     game: self.game,
                     what,
@@ -75,19 +55,28 @@ impl Report {
         self.same(what, u64::from(test), 1);
     }
 
+    // Holds an outcome to a refusal's number, or to none, which a difference shows as 0.
+    pub fn number<T>(&mut self, what: &'static str, found: &Outcome<T>, wanted: Option<u64>) {
+        self.same(what, number_of(found).unwrap_or(0), wanted.unwrap_or(0));
+    }
+
     // Counts what a call of the product came to, and holds it to what the reference says.
-    pub fn outcome(&mut self, call: Call, what: &'static str, found: Outcome, wanted: Outcome) {
-        let at = (call as usize)
-            .wrapping_mul(NUMBERS)
-            .wrapping_add(found.number as usize);
-        if let Some(count) = self.outcomes.get_mut(at) {
-            *count = count.wrapping_add(1);
-        }
-        if found.number != wanted.number {
-            self.same(what, found.number, wanted.number);
+    pub fn outcome<T: PartialEq>(
+        &mut self,
+        call: Call,
+        what: &'static str,
+        found: &Outcome<T>,
+        wanted: &Outcome<T>,
+    ) -> Result<(), AllocError> {
+        let number = number_of(found);
+        let count = self.outcomes.entry((call, number))?.or_insert(0);
+        *count = count.wrapping_add(1);
+        if number == number_of(wanted) {
+            self.holds(what, found == wanted);
         } else {
-            self.holds(what, found.is_same(wanted));
+            self.number(what, found, number_of(wanted));
         }
+        Ok(())
     }
 
     pub fn games(&self) -> u64 {
@@ -103,14 +92,13 @@ impl Report {
         self.differing
     }
 
-    // The difference with this number, from 0, if it is kept.
-    pub fn difference(&self, i: usize) -> Option<Difference> {
-        self.kept.get(i).copied()
+    // The first differences.
+    pub fn differences(&self) -> &[Difference] {
+        self.kept.as_slice()
     }
 
-    // How often a call came to a refusal's number, or to 0.
-    pub fn count(&self, call: Call, number: usize) -> u64 {
-        let at = (call as usize).wrapping_mul(NUMBERS).wrapping_add(number);
-        self.outcomes.get(at).copied().unwrap_or(0)
+    // How often a call came to a refusal's number, or to none.
+    pub fn count(&self, call: Call, number: Option<u64>) -> u64 {
+        self.outcomes.get(&(call, number)).copied().unwrap_or(0)
     }
 }

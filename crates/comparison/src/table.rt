@@ -1,8 +1,8 @@
-// Where a game is played: memory, the field in plain numbers, the dice, the report.
+// Where games are played: memory, the field in plain numbers, the dice, the report.
 use crate::dice::Dice;
 use crate::report::Report;
-use reference::Arithmetic;
-use std::alloc::{AllocError, Global};
+use reference::{Arithmetic, Game, Standing};
+use std::alloc::Global;
 
 #[derive(Drop)]
 pub struct Table {
@@ -13,17 +13,26 @@ pub struct Table {
 }
 
 impl Table {
-    pub fn new(heap: Global, seed: u64) -> Result<Table, AllocError> {
-        Ok(Table {
+    pub fn new(heap: Global, seed: u64) -> Table {
+        Table {
             heap,
             field: Arithmetic {
-                p: 65537,
+                p: 65_537,
                 e: 1,
                 w: 3,
                 limit: 256,
             },
             dice: Dice::new(seed),
-            report: Report::new(heap)?,
-        })
+            report: Report::new(heap),
+        }
+    }
+
+    // The reference's game that stands so.
+    pub fn game(&self, at: Standing) -> Game {
+        Game {
+            heap: self.heap,
+            field: self.field,
+            at,
+        }
     }
 }

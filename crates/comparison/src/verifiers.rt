@@ -1,90 +1,74 @@
-// A box of the product and one of the reference, told the same.
-use crate::convert::{element, same_elements};
-use crate::hosts::{found, wanted};
-use crate::outcome::Outcome;
-use crate::report::Call;
-use crate::table::Table;
-use board::{Bank, Move};
+// A box of the product and one of the reference, at the same secret point.
+use crate::call::Call;
+use crate::convert::{element, parts};
+use crate::ends::{End, Names, Pair};
+use board::{Bank, Book, Move, Refusal};
 use field::Field;
-use reference::{Element, Standing, note_at_verifier, open_verifier};
+use reference::{Arithmetic, Element, Game, Standing, Stop, note_at_verifier, open_verifier};
+use verifier::Listening;
 
-#[derive(Drop)]
-pub struct VerifierPair<F> {
-    pub product: verifier::Listening<F>,
-    pub standing: Standing,
-    pub point: Element,
-    pub sums: Vec<Element>,
-}
+pub type VerifierPair<F> = Pair<Listening<F>>;
 
-// Opens both on a board at a point, with banks of the same content.
-pub fn open_verifiers<F: Field>(
-    table: &mut Table,
-    rows: u64,
-    columns: u64,
-    point: Element,
-    bank: &mut Bank<'_, F>,
-    sums: Vec<Element>,
-) -> Option<VerifierPair<F>> {
-    let mut sums = sums;
-    let opened = verifier::Listening::<F>::open(rows, columns, element(point), bank);
-    let plain = open_verifier(table.field, rows, columns, sums.as_mut_slice());
-    table.report.outcome(
-        Call::OpenBox,
-        "opening a box",
-        found(&opened),
-        wanted(&plain),
-    );
-    let same = same_elements(bank.cells(), sums.as_slice());
-    table.report.holds("the box's bank after opening", same);
-    let Ok(product) = opened else {
-        return None;
-    };
-    let Ok(standing) = plain else {
-        return None;
-    };
-    Some(VerifierPair {
-        product,
-        standing,
-        point,
-        sums,
-    })
-}
+impl<F: Field> End for Listening<F> {
+    type Cell = F;
 
-impl<F: Field> VerifierPair<F> {
-    // Tells both a move.
-    pub fn note(&mut self, table: &mut Table, bank: &mut Bank<'_, F>, m: Move) -> Outcome {
-        let told = self.product.note(bank, m);
-        let plain = note_at_verifier(
-            table.heap,
-            table.field,
-            self.standing,
-            self.point,
-            self.sums.as_mut_slice(),
-            m.cell,
-            m.amount,
-        );
-        let outcome = found(&told);
-        table.report.outcome(Call::NoteBox, "a move at the box", outcome, wanted(&plain));
-        if let Ok(standing) = plain {
-            self.standing = standing;
+    type Plain = Element;
+
+    type Secret = Element;
+
+    fn names() -> Names {
+        Names {
+            open: Call::OpenBox,
+            note: Call::NoteBox,
+            opening: "opening a box",
+            opened_bank: "the box's bank after opening",
+            telling: "a move at the box",
+            weight: "the box's weight",
+            number: "the box's number",
+            bank: "the box's bank",
         }
-        let book = self.product.book();
-        table.report.same(
-            "the box's weight",
-            u64::from(book.weight()),
-            self.standing.weight,
-        );
-        table.report.same(
-            "the box's number",
-            u64::from(book.number()),
-            self.standing.number,
-        );
-        outcome
     }
 
-    // Holds the whole bank to the reference's.
-    pub fn compare_bank(&self, table: &mut Table, bank: &Bank<'_, F>) {
-        let same = same_elements(bank.cells(), self.sums.as_slice());
-        table.report.holds("the box's bank", same);
+    fn cell(plain: Element) -> F {
+        element(plain)
+    }
+
+    fn plain(cell: F) -> Element {
+        parts(cell)
+    }
+
+    fn opened(
+        rows: u64,
+        columns: u64,
+        secret: Element,
+        bank: &mut Bank<'_, F>,
+    ) -> Result<Listening<F>, Refusal> {
+        Listening::open(rows, columns, element(secret), bank)
+    }
+
+    fn opened_plainly(
+        field: Arithmetic,
+        rows: u64,
+        columns: u64,
+        bank: &mut [Element],
+    ) -> Result<Standing, Stop> {
+        open_verifier(field, rows, columns, bank).map_err(Stop::from)
+    }
+
+    fn told(&mut self, bank: &mut Bank<'_, F>, m: Move) -> Result<(), Refusal> {
+        self.note(bank, m)
+    }
+
+    fn told_plainly(
+        game: Game,
+        secret: Element,
+        bank: &mut [Element],
+        m: Move,
+    ) -> Result<Standing, Stop> {
+        note_at_verifier(game, secret, bank, m.cell, m.amount)
+    }
+
+    fn standing(&self) -> &Book {
+        self.book()
     }
 }

@@ -2,27 +2,34 @@
 use crate::rounds::play_field;
 use comparison::Table;
 use extension::Extension;
+use field::BaseField;
 use prime::{Mersenne31, Mod65537};
 use reference::{Arithmetic, Stop};
 
-// Everything over each field. The reference is told its constants in plain numbers.
+// Each base field, as the reference is told it: its constants in plain numbers.
+const MOD_65537: Arithmetic = Arithmetic {
+    p: 65_537,
+    e: 1,
+    w: 3,
+    limit: 256,
+};
+
+const MERSENNE31: Arithmetic = Arithmetic {
+    p: 2_147_483_647,
+    e: 1,
+    w: 2_147_483_646,
+    limit: 46_340,
+};
+
+// Everything over a base field and over its extension.
+fn play_pair<B: BaseField>(table: &mut Table, field: Arithmetic) -> Result<(), Stop> {
+    table.field = field;
+    play_field::<B>(table)?;
+    table.field = Arithmetic { e: 2, ..field };
+    play_field::<Extension<B>>(table)
+}
+
 pub fn play_all(table: &mut Table) -> Result<(), Stop> {
-    table.field = Arithmetic {
-        p: 65_537,
-        e: 1,
-        w: 3,
-        limit: 256,
-    };
-    play_field::<Mod65537>(table)?;
-    table.field.e = 2;
-    play_field::<Extension<Mod65537>>(table)?;
-    table.field = Arithmetic {
-        p: 2_147_483_647,
-        e: 1,
-        w: 2_147_483_646,
-        limit: 46_340,
-    };
-    play_field::<Mersenne31>(table)?;
-    table.field.e = 2;
-    play_field::<Extension<Mersenne31>>(table)
+    play_pair::<Mod65537>(table, MOD_65537)?;
+    play_pair::<Mersenne31>(table, MERSENNE31)
 }

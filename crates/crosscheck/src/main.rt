@@ -10,9 +10,7 @@ mod rounds;
 
 fn run(rt: &HostRuntime) -> anyhow::Result<()> {
     let heap = rt.alloc();
-    let Ok(mut table) = comparison::Table::new(heap, 20_240_917) else {
-        return Err(anyhow!("no memory"));
-    };
+    let mut table = comparison::Table::new(heap, 20_240_917);
     if fields::play_all(&mut table).is_err() {
         return Err(anyhow!("no memory for a game"));
     }

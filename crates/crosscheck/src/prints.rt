@@ -1,19 +1,19 @@
 // The report as text.
 use anyhow::anyhow;
-use comparison::{Call, Difference, Report};
+use comparison::{Call, Report};
 use std::io;
 
 // The numbers of all refusals.
-const NUMBERS: [usize; 19] = [
+const NUMBERS: [u64; 19] = [
     1, 2, 3, 10, 12, 13, 20, 21, 22, 30, 31, 40, 41, 42, 43, 44, 45, 50, 51,
 ];
 
 // One call: how often it was granted, and how often it came to each refusal.
-fn print_call(rt: &impl Print, report: &Report, call: Call, name: &str) -> io::Result<()> {
-    let granted = report.count(call, 0);
-    print!(rt; "{name}: {granted} granted")?;
-    for number in 1..63 {
-        let count = report.count(call, number);
+fn print_call(rt: &impl Print, report: &Report, call: Call) -> io::Result<()> {
+    let granted = report.count(call, None);
+    print!(rt; "{call}: {granted} granted")?;
+    for number in NUMBERS {
+        let count = report.count(call, Some(number));
         if count > 0 {
             print!(rt; ", {number}: {count}")?;
         }
@@ -21,65 +21,40 @@ fn print_call(rt: &impl Print, report: &Report, call: Call, name: &str) -> io::R
     println!(rt; "")
 }
 
-// How often a number came, from any call.
-fn times(report: &Report, number: usize) -> u64 {
-    let mut all = 0u64;
-    for call in [
-        Call::OpenHost,
-        Call::OpenBox,
-        Call::NoteHost,
-        Call::NoteBox,
-        Call::Answer,
-        Call::Judge,
-        Call::Read,
-        Call::Write,
-    ] {
-        all = all.wrapping_add(report.count(call, number));
+fn print_calls(rt: &impl Print, report: &Report) -> io::Result<()> {
+    for call in Call::ALL {
+        print_call(rt, report, call)?;
     }
-    all
+    Ok(())
 }
 
-fn print_calls(rt: &impl Print, report: &Report) -> io::Result<()> {
-    print_call(rt, report, Call::OpenHost, "open at the host")?;
-    print_call(rt, report, Call::OpenBox, "open at the box")?;
-    print_call(rt, report, Call::NoteHost, "note at the host")?;
-    print_call(rt, report, Call::NoteBox, "note at the box")?;
-    print_call(rt, report, Call::Answer, "answer")?;
-    print_call(rt, report, Call::Judge, "judge")?;
-    print_call(rt, report, Call::Read, "reading a sheet")?;
-    print_call(rt, report, Call::Write, "writing a sheet")
+// Whether a refusal's number came, from any call.
+fn came(report: &Report, number: u64) -> bool {
+    Call::ALL
+        .iter()
+        .any(|call| report.count(*call, Some(number)) > 0)
 }
 
 // Every refusal has to come at least once.
 fn print_missing(rt: &impl Print, report: &Report) -> anyhow::Result<()> {
-    let mut missing = 0u64;
+    let mut complete = true;
     for number in NUMBERS {
-        if times(report, number) == 0 {
+        if !came(report, number) {
             println!(rt; "refusal {number} never came")?;
-            missing = missing.wrapping_add(1);
+            complete = false;
         }
     }
-    if missing > 0 {
+    if !complete {
         return Err(anyhow!("not every refusal came"));
     }
     println!(rt; "every refusal of the table came at least once")?;
     Ok(())
 }
 
-fn print_difference(rt: &impl Print, difference: Difference) -> io::Result<()> {
-    let game = difference.game;
-    let what = difference.what;
-    let found = difference.found;
-    let wanted = difference.wanted;
-    println!(rt; "game {game}: {what}: the product has {found}, the reference {wanted}")
-}
-
 // The first differences, and how many there are.
 fn print_differences(rt: &impl Print, report: &Report) -> io::Result<()> {
-    for i in 0..20 {
-        if let Some(difference) = report.difference(i) {
-            print_difference(rt, difference)?;
-        }
+    for difference in report.differences() {
+        println!(rt; "{difference}")?;
     }
     let games = report.games();
     let compared = report.compared();

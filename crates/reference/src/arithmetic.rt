@@ -1,4 +1,5 @@
 // Residues modulo p, and pairs of them with t × t = w. One code for every field: p, e and w are values.
+use crate::element::Element;
 
 // A field: the characteristic p, the degree e, the residue w that t × t comes to, and the limit of weights.
 #[derive(Clone, Copy)]
@@ -9,27 +10,10 @@ pub struct Arithmetic {
     pub limit: u64,
 }
 
-// low + high × t. Both are below p, and high is 0 where e is 1.
-#[derive(Clone, Copy, PartialEq, Eq, Debug)]
-pub struct Element {
-    pub low: u64,
-    pub high: u64,
-}
-
-impl Element {
-    pub fn zero() -> Element {
-        Element { low: 0, high: 0 }
-    }
-
-    pub fn one() -> Element {
-        Element { low: 1, high: 0 }
-    }
-}
-
 // Every residue is below 2^31, so none of these sums and products wraps.
 impl Arithmetic {
     pub fn residue(self, n: u64) -> u64 {
-        if self.p == 0 { 0 } else { n % self.p }
+        n.checked_rem(self.p).unwrap_or(0)
     }
 
     fn times(self, a: u64, b: u64) -> u64 {
@@ -43,12 +27,11 @@ impl Arithmetic {
     // The element that a whole number stands for.
     pub fn image(self, n: i64) -> Element {
         let size = self.residue(n.unsigned_abs());
-        let low = if n < 0 {
-            self.residue(self.p.wrapping_sub(size))
+        if n < 0 {
+            Element::whole(self.residue(self.p.wrapping_sub(size)))
         } else {
-            size
-        };
-        Element { low, high: 0 }
+            Element::whole(size)
+        }
     }
 
     pub fn sum(self, a: Element, b: Element) -> Element {
@@ -74,7 +57,7 @@ impl Arithmetic {
         }
     }
 
-    // x multiplied n times.
+    // x multiplied n times. A loop and no chain, since each step needs both the square and the rest of the one before.
     pub fn power(self, x: Element, n: u64) -> Element {
         let mut all = Element::one();
         let mut square = x;

@@ -1,9 +1,12 @@
-// Both ends over banks of the caller's: open and note.
-use crate::arithmetic::{Arithmetic, Element};
-use crate::interpolation::basis;
+// Both ends over banks of the caller's: open and note. They stay two of each, since they differ in the grid's part that a
+// bank needs, and in all that a move does; what is alike is in `Standing` and `fill_front`.
+use crate::arithmetic::Arithmetic;
+use crate::element::Element;
+use crate::front::fill_front;
+use crate::game::Game;
+use crate::refusal::Refusal;
 use crate::standing::Standing;
 use crate::stop::Stop;
-use std::alloc::Global;
 
 // A host on a board: a count for each cell, all zero.
 pub fn open_host(
@@ -11,15 +14,9 @@ pub fn open_host(
     rows: u64,
     columns: u64,
     bank: &mut [i64],
-) -> Result<Standing, Stop> {
+) -> Result<Standing, Refusal> {
     let standing = Standing::open(rows, columns, field.limit)?;
-    let cells = standing.cells() as usize;
-    if bank.len() < cells {
-        return Err(Stop::refusal(12));
-    }
-    for i in 0..cells {
-        bank[i] = 0;
-    }
+    fill_front(bank, standing.cells(), 0).ok_or(Refusal::BankShort)?;
     Ok(standing)
 }
 
@@ -29,15 +26,9 @@ pub fn open_verifier(
     rows: u64,
     columns: u64,
     bank: &mut [Element],
-) -> Result<Standing, Stop> {
+) -> Result<Standing, Refusal> {
     let standing = Standing::open(rows, columns, field.limit)?;
-    let width = columns as usize;
-    if bank.len() < width {
-        return Err(Stop::refusal(12));
-    }
-    for i in 0..width {
-        bank[i] = Element::zero();
-    }
+    fill_front(bank, columns, Element::zero()).ok_or(Refusal::BankShort)?;
     Ok(standing)
 }
 
@@ -47,44 +38,40 @@ pub fn note_at_host(
     bank: &mut [i64],
     cell: u64,
     amount: i64,
-) -> Result<Standing, Stop> {
+) -> Result<Standing, Refusal> {
     if (bank.len() as u64) < standing.cells() {
-        return Err(Stop::refusal(12));
+        return Err(Refusal::BankShort);
     }
     standing.test(cell, amount)?;
-    let i = cell as usize;
-    if i >= bank.len() {
-        return Err(Stop::refusal(12));
-    }
-    let count = bank[i];
+    let count = bank.get_mut(cell as usize).ok_or(Refusal::BankShort)?;
     if count.unsigned_abs() > standing.limit {
-        return Err(Stop::refusal(13));
+        return Err(Refusal::CountOutside);
     }
-    bank[i] = count.wrapping_add(amount);
+    *count = count.wrapping_add(amount);
     Ok(standing.after(amount))
 }
 
 // Tells a box a move: its column grows by the amount's image times χ_x at the point, where x is the cell's row.
 pub fn note_at_verifier(
-    heap: Global,
-    field: Arithmetic,
-    standing: Standing,
+    game: Game,
     point: Element,
     bank: &mut [Element],
     cell: u64,
     amount: i64,
 ) -> Result<Standing, Stop> {
-    if (bank.len() as u64) < standing.columns {
-        return Err(Stop::refusal(12));
+    if (bank.len() as u64) < game.at.columns {
+        return Err(Stop::from(Refusal::BankShort));
     }
-    standing.test(cell, amount)?;
-    let weights = basis(heap, field, standing.rows, point)?;
-    let row = cell.checked_div(standing.columns).unwrap_or(0) as usize;
-    let column = cell.checked_rem(standing.columns).unwrap_or(0) as usize;
-    let weight = weights.get(row).copied().unwrap_or(Element::zero());
-    let share = field.product(field.image(amount), weight);
-    if column < bank.len() {
-        bank[column] = field.sum(bank[column], share);
+    game.at.test(cell, amount)?;
+    let (row, column) = game.at.place(cell);
+    let weight = game
+        .basis(point)?
+        .get(row)
+        .copied()
+        .unwrap_or(Element::zero());
+    let share = game.field.product(game.field.image(amount), weight);
+    if let Some(sum) = bank.get_mut(column) {
+        *sum = game.field.sum(*sum, share);
     }
-    Ok(standing.after(amount))
+    Ok(game.at.after(amount))
 }

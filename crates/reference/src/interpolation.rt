@@ -1,24 +1,20 @@
 // Lagrange's formula.
-use crate::arithmetic::{Arithmetic, Element};
-use std::alloc::{AllocError, Global};
+use crate::arithmetic::Arithmetic;
+use crate::element::Element;
+use crate::game::Game;
+use std::alloc::AllocError;
 
 // The element of a row's number.
 fn node(field: Arithmetic, k: u64) -> Element {
-    Element {
-        low: field.residue(k),
-        high: 0,
-    }
+    Element::whole(field.residue(k))
 }
 
 // The product of (a − k) over k from 0 to n − 1 without x.
 fn product_without(field: Arithmetic, n: u64, x: u64, a: Element) -> Element {
-    let mut all = Element::one();
-    for k in 0..n {
-        if k != x {
-            all = field.product(all, field.difference(a, node(field, k)));
-        }
-    }
-    all
+    (0..n).filter(|k| *k != x).fold(
+        Element::one(),
+        |all, k| field.product(all, field.difference(a, node(field, k))),
+    )
 }
 
 // χ_x over the nodes 0 to n − 1, at a point.
@@ -28,32 +24,16 @@ fn basis_of(field: Arithmetic, n: u64, x: u64, point: Element) -> Element {
     field.product(above, field.inverse(below))
 }
 
-// χ_0 to χ_(n − 1) at a point.
-pub fn basis(
-    heap: Global,
-    field: Arithmetic,
-    n: u64,
-    point: Element,
-) -> Result<Vec<Element>, AllocError> {
-    let mut all = Vec::new(heap);
-    for x in 0..n {
-        all.push(basis_of(field, n, x, point))?;
-    }
-    Ok(all)
-}
-
 // The value at a point of the polynomial that takes these values at 0, 1, 2, ..
 pub fn value_at(field: Arithmetic, values: &[Element], point: Element) -> Element {
     let n = values.len() as u64;
-    let mut all = Element::zero();
-    for (j, value) in values.iter().enumerate() {
-        let share = field.product(*value, basis_of(field, n, j as u64, point));
-        all = field.sum(all, share);
-    }
-    all
+    (0..n).zip(values).fold(
+        Element::zero(),
+        |all, (j, value)| field.sum(all, field.product(*value, basis_of(field, n, j, point))),
+    )
 }
 
-// Column y at the point whose basis is given.
+// Column y at the point whose basis is given, from the board's counts row by row.
 fn column(
     field: Arithmetic,
     basis: &[Element],
@@ -61,29 +41,30 @@ fn column(
     counts: &[i64],
     y: usize,
 ) -> Element {
-    let mut all = Element::zero();
-    let mut cell = y;
-    for weight in basis {
-        let count = counts.get(cell).copied().unwrap_or(0);
-        all = field.sum(all, field.product(field.image(count), *weight));
-        cell = cell.wrapping_add(columns);
-    }
-    all
+    basis
+        .iter()
+        .zip(counts.chunks(columns.max(1)))
+        .fold(Element::zero(), |all, (weight, row)| {
+            let count = row.get(y).copied().unwrap_or(0);
+            field.sum(all, field.product(field.image(count), *weight))
+        })
 }
 
-// Every column at a point.
-pub fn columns_at(
-    heap: Global,
-    field: Arithmetic,
-    rows: u64,
-    columns: u64,
-    counts: &[i64],
-    point: Element,
-) -> Result<Vec<Element>, AllocError> {
-    let weights = basis(heap, field, rows, point)?;
-    let mut all = Vec::new(heap);
-    for y in 0..columns as usize {
-        all.push(column(field, weights.as_slice(), columns as usize, counts, y))?;
+impl Game {
+    // χ_0 to χ_(h − 1) over the rows, at a point.
+    pub fn basis(self, point: Element) -> Result<Vec<Element>, AllocError> {
+        let rows = self.at.rows;
+        (0..rows)
+            .map(|x| basis_of(self.field, rows, x, point))
+            .collect(self.heap)
     }
-    Ok(all)
+
+    // Every column at a point.
+    pub fn columns_at(self, counts: &[i64], point: Element) -> Result<Vec<Element>, AllocError> {
+        let basis = self.basis(point)?;
+        let columns = self.at.columns as usize;
+        (0..columns)
+            .map(|y| column(self.field, basis.as_slice(), columns, counts, y))
+            .collect(self.heap)
+    }
 }

@@ -1,4 +1,5 @@
 // The ledger: which moves count, and what they come to.
+use crate::refusal::Refusal;
 use crate::standing::Standing;
 use crate::stop::Stop;
 use std::alloc::{AllocError, Global};
@@ -11,7 +12,7 @@ pub struct Ledger {
 }
 
 impl Ledger {
-    pub fn open(heap: Global, rows: u64, columns: u64, limit: u64) -> Result<Ledger, Stop> {
+    pub fn open(heap: Global, rows: u64, columns: u64, limit: u64) -> Result<Ledger, Refusal> {
         Ok(Ledger {
             standing: Standing::open(rows, columns, limit)?,
             counts: BTreeMap::new(heap),
@@ -24,10 +25,7 @@ impl Ledger {
 
     // The count of a cell: what the accepted moves there add up to.
     pub fn count(&self, cell: u64) -> i64 {
-        match self.counts.get(&cell) {
-            Some(count) => *count,
-            None => 0,
-        }
+        self.counts.get(&cell).copied().unwrap_or(0)
     }
 
     // Accepts a move, or refuses it and changes nothing.
@@ -41,10 +39,8 @@ impl Ledger {
 
     // The counts of all cells, in order.
     pub fn all_counts(&self, heap: Global) -> Result<Vec<i64>, AllocError> {
-        let mut all = Vec::new(heap);
-        for cell in 0..self.standing.cells() {
-            all.push(self.count(cell))?;
-        }
-        Ok(all)
+        (0..self.standing.cells())
+            .map(|cell| self.count(cell))
+            .collect(heap)
     }
 }

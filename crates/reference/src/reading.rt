@@ -1,10 +1,12 @@
 // Reading a sheet.
-use crate::arithmetic::{Arithmetic, Element};
 use crate::ask::Ask;
-use crate::pieces::{Piece, number_value, pieces_of};
-use crate::standing::Standing;
+use crate::element::Element;
+use crate::front::{fill_front, put_front};
+use crate::game::Game;
+use crate::pieces::{Piece, pieces_of};
+use crate::refusal::{Fault, Position, Refusal};
 use crate::stop::Stop;
-use crate::wants::{Want, wants_of};
+use crate::wants::Want;
 use std::alloc::{AllocError, Global};
 
 // What a sheet says: a claim and values.
@@ -15,19 +17,13 @@ pub struct Sheet {
 }
 
 // Holds the pieces to what is wanted, and keeps the numbers that are to be kept.
-fn kept_numbers(heap: Global, wants: &[Want], pieces: &[Piece]) -> Result<Vec<i64>, Stop> {
+fn kept_numbers(heap: Global, wants: &[Want], pieces: &[Piece<'_>]) -> Result<Vec<i64>, Stop> {
     let mut kept = Vec::new(heap);
-    for (want, piece) in wants.iter().zip(pieces.iter()) {
-        let number = want.fault(piece.text.as_slice());
-        if number != 0 {
-            return Err(Stop::Refusal {
-                number,
-                line: piece.line,
-                place: piece.place,
-            });
-        }
-        if want.keeps() {
-            kept.push(number_value(piece.text.as_slice()).unwrap_or(0))?;
+    for (want, piece) in wants.iter().zip(pieces) {
+        match want.kept(piece.text) {
+            Ok(Some(number)) => kept.push(number)?,
+            Ok(None) => {}
+            Err(fault) => return Err(Stop::from(Refusal::Sheet(fault, piece.at))),
         }
     }
     Ok(kept)
@@ -35,69 +31,41 @@ fn kept_numbers(heap: Global, wants: &[Want], pieces: &[Piece]) -> Result<Vec<i6
 
 // The elements of parts, low and high in turn.
 fn elements(heap: Global, parts: &[i64]) -> Result<Vec<Element>, AllocError> {
-    let mut all = Vec::new(heap);
-    for pair in parts.chunks_exact(2) {
-        all.push(Element {
+    parts
+        .chunks_exact(2)
+        .map(|pair| Element {
             low: pair[0].unsigned_abs(),
             high: pair[1].unsigned_abs(),
-        })?;
-    }
-    Ok(all)
+        })
+        .collect(heap)
 }
 
-// Reads a sheet for a question, or tells its first fault.
-pub fn read_sheet(
-    heap: Global,
-    field: Arithmetic,
-    at: Standing,
-    ask: Ask,
-    sheet: &[u8],
-) -> Result<Sheet, Stop> {
-    let wants = wants_of(heap, field, at, ask)?;
-    let pieces = pieces_of(heap, sheet)?;
-    let kept = kept_numbers(heap, wants.as_slice(), pieces.as_slice())?;
-    match kept.as_slice() {
-        [] => Err(Stop::refusal(31)),
-        [claim, parts @ ..] => Ok(Sheet {
+impl Game {
+    // Reads a sheet for a question, or tells its first fault.
+    pub fn read_sheet(self, ask: Ask, sheet: &[u8]) -> Result<Sheet, Stop> {
+        let wants = self.wants(ask)?;
+        let pieces = pieces_of(self.heap, sheet)?;
+        let kept = kept_numbers(self.heap, wants.as_slice(), pieces.as_slice())?;
+        let Some((claim, parts)) = kept.as_slice().split_first() else {
+            let start = Position { line: 1, place: 0 };
+            return Err(Stop::from(Refusal::Sheet(Fault::Unexpected, start)));
+        };
+        Ok(Sheet {
             claim: *claim,
-            values: elements(heap, parts)?,
-        }),
+            values: elements(self.heap, parts)?,
+        })
     }
-}
 
-// Puts zero into the first degree + 1 elements of a tray that has them.
-pub(crate) fn clear_front(tray: &mut [Element], degree: u64) -> Result<(), Stop> {
-    if (tray.len() as u64) <= degree {
-        return Err(Stop::refusal(21));
+    // Puts zeros into a tray's front, where a sheet's values go.
+    pub(crate) fn clear_tray(self, ask: Ask, tray: &mut [Element]) -> Result<(), Refusal> {
+        fill_front(tray, ask.size(self.at), Element::zero()).ok_or(Refusal::TrayShort)
     }
-    for j in 0..tray.len() {
-        if j as u64 <= degree {
-            tray[j] = Element::zero();
-        }
-    }
-    Ok(())
-}
 
-// Puts values into the front of a tray.
-pub(crate) fn put_front(tray: &mut [Element], values: &[Element]) {
-    for (j, value) in values.iter().enumerate() {
-        if j < tray.len() {
-            tray[j] = *value;
-        }
+    // Reads a sheet into the front of a tray: the claim, or a refusal, which from 30 on leaves zeros there.
+    pub fn read_into(self, ask: Ask, sheet: &[u8], tray: &mut [Element]) -> Result<i64, Stop> {
+        self.clear_tray(ask, tray)?;
+        let read = self.read_sheet(ask, sheet)?;
+        put_front(tray, read.values.as_slice());
+        Ok(read.claim)
     }
-}
-
-// Reads a sheet into the front of a tray: the claim, or a refusal, which from 30 on leaves zeros there.
-pub fn read_into(
-    heap: Global,
-    field: Arithmetic,
-    at: Standing,
-    ask: Ask,
-    sheet: &[u8],
-    tray: &mut [Element],
-) -> Result<i64, Stop> {
-    clear_front(tray, ask.degree(at))?;
-    let read = read_sheet(heap, field, at, ask, sheet)?;
-    put_front(tray, read.values.as_slice());
-    Ok(read.claim)
 }

@@ -1,5 +1,5 @@
 // How a game stands: the grid, the limit of weights, and the weight and number of the accepted moves.
-use crate::stop::Stop;
+use crate::refusal::Refusal;
 
 #[derive(Clone, Copy)]
 pub struct Standing {
@@ -12,9 +12,9 @@ pub struct Standing {
 
 impl Standing {
     // A new game on an allowed grid.
-    pub fn open(rows: u64, columns: u64, limit: u64) -> Result<Standing, Stop> {
-        if rows < 1 || rows > 64 || columns < 8 || columns > 1024 || columns % 8 != 0 {
-            return Err(Stop::refusal(10));
+    pub fn open(rows: u64, columns: u64, limit: u64) -> Result<Standing, Refusal> {
+        if !matches!(rows, 1..=64) || !matches!(columns, 8..=1024) || columns % 8 != 0 {
+            return Err(Refusal::GridOutside);
         }
         Ok(Standing {
             rows,
@@ -29,16 +29,23 @@ impl Standing {
         self.rows.wrapping_mul(self.columns)
     }
 
-    // The first of the refusals 1, 2, 3 that a move meets.
-    pub fn test(self, cell: u64, amount: i64) -> Result<(), Stop> {
+    // The row and the column of a cell.
+    pub fn place(self, cell: u64) -> (usize, usize) {
+        let row = cell.checked_div(self.columns).unwrap_or(0);
+        let column = cell.checked_rem(self.columns).unwrap_or(0);
+        (row as usize, column as usize)
+    }
+
+    // The first of the refusals that a move meets.
+    pub fn test(self, cell: u64, amount: i64) -> Result<(), Refusal> {
         if cell >= self.cells() {
-            return Err(Stop::refusal(1));
+            return Err(Refusal::CellOutside);
         }
-        if amount == 0 || amount < -256 || amount > 256 {
-            return Err(Stop::refusal(2));
+        if amount == 0 || !matches!(amount, -256..=256) {
+            return Err(Refusal::AmountOutside);
         }
         if self.weight.saturating_add(amount.unsigned_abs()) > self.limit {
-            return Err(Stop::refusal(3));
+            return Err(Refusal::TooHeavy);
         }
         Ok(())
     }
@@ -46,11 +53,9 @@ impl Standing {
     // How it stands after an accepted move.
     pub fn after(self, amount: i64) -> Standing {
         Standing {
-            rows: self.rows,
-            columns: self.columns,
-            limit: self.limit,
             weight: self.weight.saturating_add(amount.unsigned_abs()),
             number: self.number.saturating_add(1),
+            ..self
         }
     }
 }

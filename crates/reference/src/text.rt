@@ -1,68 +1,51 @@
 // The text of a sheet, as a host writes it.
-use crate::arithmetic::{Arithmetic, Element};
-use crate::standing::Standing;
+use crate::element::Element;
+use crate::front::put_front;
+use crate::game::Game;
+use crate::naming::Tag;
+use crate::refusal::Refusal;
 use crate::stop::Stop;
-use std::alloc::{AllocError, Global};
+use std::alloc::AllocError;
+use std::fmt::Write;
 
-// The lines for the field, the grid, the tag and the claim.
-fn head(
-    heap: Global,
-    field: Arithmetic,
-    at: Standing,
-    tag: (u64, u64, u64),
-    claim: i64,
-) -> Result<String, AllocError> {
-    let rows = at.rows;
-    let columns = at.columns;
-    let p = field.p;
-    let e = field.e;
-    let (k, a, b) = tag;
-    format!(in heap; "(sheet {p} {e} (grid {rows} {columns}))\n(claim ({k} {a} {b}) {claim})\n")
-}
-
-// The line of a value.
-fn value_line(heap: Global, j: usize, value: Element) -> Result<String, AllocError> {
-    let low = value.low;
-    let high = value.high;
-    format!(in heap; "(at {j} ({low} {high}))\n")
-}
-
-// The whole sheet.
-pub fn write_sheet(
-    heap: Global,
-    field: Arithmetic,
-    at: Standing,
-    tag: (u64, u64, u64),
-    claim: i64,
-    values: &[Element],
-) -> Result<String, AllocError> {
-    let mut all = head(heap, field, at, tag, claim)?;
-    for (j, value) in values.iter().enumerate() {
-        let line = value_line(heap, j, *value)?;
-        all.push_str(line.as_str())?;
+impl Game {
+    // The lines for the field, the grid, the tag and the claim.
+    fn head(self, tag: Tag, claim: i64) -> Result<String, AllocError> {
+        let rows = self.at.rows;
+        let columns = self.at.columns;
+        let p = self.field.p;
+        let e = self.field.e;
+        format!(in self.heap; "(sheet {p} {e} (grid {rows} {columns}))\n(claim {tag} {claim})\n")
     }
-    all.push_str("(end)\n")?;
-    Ok(all)
-}
 
-// Lays a sheet onto paper that is enough for every sheet, and tells its length.
-pub fn lay_sheet(
-    heap: Global,
-    field: Arithmetic,
-    at: Standing,
-    tag: (u64, u64, u64),
-    claim: i64,
-    values: &[Element],
-    paper: &mut [u8],
-) -> Result<u64, Stop> {
-    if paper.len() < 9216 || values.len() > 253 {
-        return Err(Stop::refusal(22));
-    }
-    let text = write_sheet(heap, field, at, tag, claim, values)?;
-    for (i, byte) in text.as_bytes().iter().enumerate() {
-        if i < paper.len() {
-            paper[i] = *byte;
+    // The whole sheet.
+    pub fn write_sheet(
+        self,
+        tag: Tag,
+        claim: i64,
+        values: &[Element],
+    ) -> Result<String, AllocError> {
+        let mut all = self.head(tag, claim)?;
+        for (j, value) in values.iter().enumerate() {
+            write!(all, "(at {j} {value})\n")?;
         }
+        all.push_str("(end)\n")?;
+        Ok(all)
     }
-    Ok(text.len() as u64)
+
+    // Lays a sheet onto paper that is enough for every sheet, and tells its length.
+    pub fn lay_sheet(
+        self,
+        tag: Tag,
+        claim: i64,
+        values: &[Element],
+        paper: &mut [u8],
+    ) -> Result<u64, Stop> {
+        if paper.len() < 9216 || values.len() > 253 {
+            return Err(Stop::from(Refusal::PaperShort));
+        }
+        let text = self.write_sheet(tag, claim, values)?;
+        put_front(paper, text.as_bytes());
+        Ok(text.len() as u64)
+    }
 }

@@ -1,141 +1,119 @@
 // What the grammar has, piece by piece.
-use crate::arithmetic::Arithmetic;
 use crate::ask::Ask;
+use crate::game::Game;
+use crate::naming::Limits;
 use crate::pieces::{is_malformed, number_value};
-use crate::standing::Standing;
-use std::alloc::{AllocError, Global};
+use crate::refusal::Fault;
+use std::alloc::AllocError;
 
 #[derive(Clone, Copy)]
 pub enum Want {
-    // A bracket, a line end or a word.
+    // A bracket, a line end or a word; no text at all at the end of the sheet.
     Text(&'static str),
     // This number; another has this fault.
-    Number(u64, u64),
-    // A number from one to another, kept; another has this fault.
-    Kept(i64, i64, u64),
-    // The end of the sheet.
-    End,
+    Number(u64, Fault),
+    // A number within limits, kept; another has this fault.
+    Kept(Limits, Fault),
 }
 
 impl Want {
-    // The fault of a piece where this is wanted; 0 where it has none.
-    pub fn fault(self, text: &[u8]) -> u64 {
+    // The number to be kept of a piece where this is wanted, if there is one; or what is wrong with the piece.
+    pub fn kept(self, text: &[u8]) -> Result<Option<i64>, Fault> {
         if is_malformed(text) {
-            return 30;
+            return Err(Fault::Malformed);
         }
-        let fits = match self {
-            Want::Text(wanted) => text == wanted.as_bytes(),
-            Want::End => text.is_empty(),
-            Want::Number(..) => true,
-            Want::Kept(..) => true,
-        };
-        if fits { self.number_fault(text) } else { 31 }
-    }
-
-    // The fault of a piece where a number is wanted.
-    fn number_fault(self, text: &[u8]) -> u64 {
-        let (least, greatest, fault) = match self {
-            Want::Number(n, fault) => {
-                let value = i64::try_from(n).unwrap_or(-1);
-                (value, value, fault)
+        let (fits, kept, fault) = match self {
+            Want::Text(wanted) => (text == wanted.as_bytes(), None, Fault::Unexpected),
+            Want::Number(wanted, fault) => {
+                let value = number_value(text).ok_or(Fault::Unexpected)?;
+                (i64::try_from(wanted).ok() == Some(value), None, fault)
             }
-            Want::Kept(least, greatest, fault) => (least, greatest, fault),
-            _ => return 0,
-        };
-        match number_value(text) {
-            Some(value) => {
-                if least <= value && value <= greatest {
-                    0
-                } else {
-                    fault
-                }
+            Want::Kept(limits, fault) => {
+                let value = number_value(text).ok_or(Fault::Unexpected)?;
+                let fits = limits.least <= value && value <= limits.greatest;
+                (fits, Some(value), fault)
             }
-            None => 31,
+        };
+        if fits { Ok(kept) } else { Err(fault) }
+    }
+}
+
+impl Game {
+    // `(sheet p e (grid h v))`
+    fn add_head(self, wants: &mut Vec<Want>) -> Result<(), AllocError> {
+        wants.extend_from_slice(&[
+            Want::Text("("),
+            Want::Text("sheet"),
+            Want::Number(self.field.p, Fault::Field),
+            Want::Number(self.field.e, Fault::Field),
+            Want::Text("("),
+            Want::Text("grid"),
+            Want::Number(self.at.rows, Fault::Grid),
+            Want::Number(self.at.columns, Fault::Grid),
+            Want::Text(")"),
+            Want::Text(")"),
+            Want::Text("\n"),
+        ])
+    }
+
+    // `(claim (k a b) c)`
+    fn add_claim(self, wants: &mut Vec<Want>, ask: Ask) -> Result<(), AllocError> {
+        let tag = ask.tag();
+        wants.extend_from_slice(&[
+            Want::Text("("),
+            Want::Text("claim"),
+            Want::Text("("),
+            Want::Number(tag.kind, Fault::Tag),
+            Want::Number(tag.first, Fault::Tag),
+            Want::Number(tag.second, Fault::Tag),
+            Want::Text(")"),
+            Want::Kept(ask.limits(self.field.limit), Fault::Claim),
+            Want::Text(")"),
+            Want::Text("\n"),
+        ])
+    }
+
+    // `(at j (low high))`
+    fn add_value(self, wants: &mut Vec<Want>, j: u64) -> Result<(), AllocError> {
+        let low = Limits {
+            least: 0,
+            greatest: i64::try_from(self.field.p).unwrap_or(0).wrapping_sub(1),
+        };
+        let high = match self.field.e {
+            1 => Limits {
+                least: 0,
+                greatest: 0,
+            },
+            _ => low,
+        };
+        wants.extend_from_slice(&[
+            Want::Text("("),
+            Want::Text("at"),
+            Want::Number(j, Fault::Index),
+            Want::Text("("),
+            Want::Kept(low, Fault::Part),
+            Want::Kept(high, Fault::Part),
+            Want::Text(")"),
+            Want::Text(")"),
+            Want::Text("\n"),
+        ])
+    }
+
+    // The whole sheet for a question: its lines, `(end)`, and nothing behind.
+    pub fn wants(self, ask: Ask) -> Result<Vec<Want>, AllocError> {
+        let mut wants = Vec::new(self.heap);
+        self.add_head(&mut wants)?;
+        self.add_claim(&mut wants, ask)?;
+        for j in 0..ask.size(self.at) {
+            self.add_value(&mut wants, j)?;
         }
+        wants.extend_from_slice(&[
+            Want::Text("("),
+            Want::Text("end"),
+            Want::Text(")"),
+            Want::Text("\n"),
+            Want::Text(""),
+        ])?;
+        Ok(wants)
     }
-
-    // Whether the number is kept.
-    pub fn keeps(self) -> bool {
-        match self {
-            Want::Kept(..) => true,
-            _ => false,
-        }
-    }
-}
-
-// `(sheet p e (grid h v))`
-fn add_head(wants: &mut Vec<Want>, field: Arithmetic, at: Standing) -> Result<(), AllocError> {
-    wants.extend_from_slice(&[
-        Want::Text("("),
-        Want::Text("sheet"),
-        Want::Number(field.p, 40),
-        Want::Number(field.e, 40),
-        Want::Text("("),
-        Want::Text("grid"),
-        Want::Number(at.rows, 41),
-        Want::Number(at.columns, 41),
-        Want::Text(")"),
-        Want::Text(")"),
-        Want::Text("\n"),
-    ])
-}
-
-// `(claim (k a b) c)`
-fn add_claim(
-    wants: &mut Vec<Want>,
-    tag: (u64, u64, u64),
-    limits: (i64, i64),
-) -> Result<(), AllocError> {
-    wants.extend_from_slice(&[
-        Want::Text("("),
-        Want::Text("claim"),
-        Want::Text("("),
-        Want::Number(tag.0, 42),
-        Want::Number(tag.1, 42),
-        Want::Number(tag.2, 42),
-        Want::Text(")"),
-        Want::Kept(limits.0, limits.1, 43),
-        Want::Text(")"),
-        Want::Text("\n"),
-    ])
-}
-
-// `(at j (low high))`
-fn add_value(wants: &mut Vec<Want>, field: Arithmetic, j: u64) -> Result<(), AllocError> {
-    let most = i64::try_from(field.p).unwrap_or(0).wrapping_sub(1);
-    let most_high = if field.e == 1 { 0 } else { most };
-    wants.extend_from_slice(&[
-        Want::Text("("),
-        Want::Text("at"),
-        Want::Number(j, 44),
-        Want::Text("("),
-        Want::Kept(0, most, 45),
-        Want::Kept(0, most_high, 45),
-        Want::Text(")"),
-        Want::Text(")"),
-        Want::Text("\n"),
-    ])
-}
-
-// The whole sheet for a question: its lines, `(end)`, and nothing behind.
-pub fn wants_of(
-    heap: Global,
-    field: Arithmetic,
-    at: Standing,
-    ask: Ask,
-) -> Result<Vec<Want>, AllocError> {
-    let mut wants = Vec::new(heap);
-    add_head(&mut wants, field, at)?;
-    add_claim(&mut wants, ask.tag(), ask.limits(field.limit))?;
-    for j in 0..ask.degree(at).saturating_add(1) {
-        add_value(&mut wants, field, j)?;
-    }
-    wants.extend_from_slice(&[
-        Want::Text("("),
-        Want::Text("end"),
-        Want::Text(")"),
-        Want::Text("\n"),
-        Want::End,
-    ])?;
-    Ok(wants)
 }

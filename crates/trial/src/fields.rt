@@ -1,5 +1,5 @@
 // The fields that there are.
-use crate::show;
+use crate::show::Parts;
 use extension::Extension;
 use field::{BaseField, Field};
 use prime::{Mersenne31, Mod65537};
@@ -15,9 +15,7 @@ fn print_pair<B: BaseField>(rt: &impl Print, name: &str) -> io::Result<()> {
 }
 
 fn print_element<F: Field>(rt: &impl Print, text: &str, x: F) -> io::Result<()> {
-    print!(rt; "  {text}: parts")?;
-    show::parts(rt, x)?;
-    println!(rt; "")
+    println!(rt; "  {text}: {}", Parts(x))
 }
 
 // The element 2 + 3 t of the extension of 65,537, its square, and its inverse.

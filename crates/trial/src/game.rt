@@ -1,5 +1,7 @@
 // A game on a board of two rows and eight columns, told to both ends and sealed, with what is then asked of them.
-use crate::{questions, show};
+use crate::ends::Listening;
+use crate::questions;
+use crate::show::{Elements, Noted, Standing};
 use anyhow::anyhow;
 use board::{Bank, Move};
 use field::Field;
@@ -7,21 +9,15 @@ use prime::Mod65537;
 use std::io;
 
 // Tells both ends the moves, and prints what each answers.
-fn tell<F: Field>(
-    rt: &impl Print,
-    host: &mut host::Listening<F>,
-    counts: &mut Bank<'_, i32>,
-    verifier: &mut verifier::Listening<F>,
-    sums: &mut Bank<'_, F>,
-    moves: &[Move],
-) -> io::Result<()> {
+fn tell(rt: &impl Print, ends: &mut Listening<'_>, moves: &[Move]) -> io::Result<()> {
     for m in moves {
-        let cell = m.cell;
-        let amount = m.amount;
-        print!(rt; "  move ({cell}, {amount}):")?;
-        show::note(rt, "host", host.note(counts, *m))?;
-        show::note(rt, "box", verifier.note(sums, *m))?;
-        println!(rt; "")?;
+        let Move { cell, amount } = *m;
+        let (at_host, at_verifier) = ends.note(*m);
+        println!(rt;
+            "  move ({cell}, {amount}): host {} box {}",
+            Noted(at_host),
+            Noted(at_verifier)
+        )?;
     }
     Ok(())
 }
@@ -49,30 +45,33 @@ const MOVES: [Move; 7] = [
     },
 ];
 
+fn print_bank(rt: &impl Print, cells: &[Mod65537]) -> io::Result<()> {
+    println!(rt; "  bank of the box:{}", Elements(cells))
+}
+
 pub fn play(rt: &impl Print) -> anyhow::Result<()> {
     let mut counts = [7i32; 16];
     let mut sums = [Mod65537::one(); 8];
     let mut counts = Bank::new(&mut counts);
     let mut sums = Bank::new(&mut sums);
     println!(rt; "A game of 2 rows and 8 columns over the residues modulo 65537, secret point 5")?;
-    let Ok(mut host) = host::Listening::<Mod65537>::open(2, 8, &mut counts) else {
+    let Ok(host) = host::Listening::open(2, 8, &mut counts) else {
         return Err(anyhow!("the host did not open"));
     };
-    let Ok(mut verifier) = verifier::Listening::<Mod65537>::open(
-        2,
-        8,
-        Mod65537::image(5),
-        &mut sums,
-    ) else {
+    let Ok(verifier) = verifier::Listening::open(2, 8, Mod65537::image(5), &mut sums) else {
         return Err(anyhow!("the box did not open"));
     };
-    tell(rt, &mut host, &mut counts, &mut verifier, &mut sums, &MOVES)?;
-    let host = host.seal();
-    let verifier = verifier.seal();
-    show::book(rt, "host", host.book())?;
-    show::book(rt, "box", verifier.book())?;
-    print!(rt; "  bank of the box:")?;
-    show::elements(rt, sums.cells())?;
-    questions::ask_all(rt, &host, &counts, &verifier, &sums)?;
+    let mut ends = Listening {
+        host,
+        counts,
+        verifier,
+        sums,
+    };
+    tell(rt, &mut ends, &MOVES)?;
+    let ends = ends.seal();
+    println!(rt; "  host: {}", Standing(ends.host.book()))?;
+    println!(rt; "  box: {}", Standing(ends.verifier.book()))?;
+    print_bank(rt, ends.sums.cells())?;
+    questions::ask_all(rt, &ends)?;
     Ok(())
 }

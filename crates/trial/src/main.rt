@@ -2,6 +2,7 @@
 #![tactic(auto)]
 
 mod cheats;
+mod ends;
 mod fields;
 mod game;
 mod questions;

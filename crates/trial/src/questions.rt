@@ -1,6 +1,7 @@
 // This season's questions, asked of the host and judged by the box.
-use crate::show;
-use board::{Bank, Grid};
+use crate::ends::Sealed;
+use crate::show::{Judged, Parts, Refused};
+use board::Grid;
 use field::Field;
 use prime::Mod65537;
 use question::{Fit, Question};
@@ -29,9 +30,11 @@ fn describe<F: Field, Q: Question<F>>(
     match question.fit(grid) {
         Fit::Fits => {
             if columns.len() == grid.columns() as usize {
-                print!(rt; "    fits; the rule at the secret point has parts")?;
-                show::parts(rt, question.rule(grid, point, columns))?;
-                println!(rt; "")?;
+                let value = question.rule(grid, point, columns);
+                println!(rt;
+                    "    fits; the rule at the secret point has {}",
+                    Parts(value)
+                )?;
             }
             Ok(())
         }
@@ -40,91 +43,60 @@ fn describe<F: Field, Q: Question<F>>(
 }
 
 // Asks the host, and has the box judge its sheet.
-fn ask<Q: Question<Mod65537>>(
-    rt: &impl Print,
-    host: &host::Sealed<Mod65537>,
-    counts: &Bank<'_, i32>,
-    verifier: &verifier::Sealed<Mod65537>,
-    sums: &Bank<'_, Mod65537>,
-    question: &Q,
-) -> io::Result<()> {
+fn ask<Q: Question<Mod65537>>(rt: &impl Print, ends: &Sealed<'_>, question: &Q) -> io::Result<()> {
     let mut tray = [Mod65537::zero(); 11];
     let mut paper = [0u8; 9216];
-    match host.answer(counts, question, &mut tray, &mut paper) {
+    let answer = ends
+        .host
+        .answer(&ends.counts, question, &mut tray, &mut paper);
+    match answer {
         Ok((claim, length)) => {
             println!(rt; "    host: claim {claim}, a sheet of {length} bytes")?;
-            if length <= paper.len() {
-                let sheet = &paper[0..length];
-                print!(rt; "    box: ")?;
-                show::judgement(rt, verifier.judge(sums, question, sheet, &mut tray))?;
-            }
-            Ok(())
+            let sheet = paper.get(0..length).unwrap_or(&[]);
+            let found = ends.verifier.judge(&ends.sums, question, sheet, &mut tray);
+            println!(rt; "    box: {}", Judged(found))
         }
-        Err(why) => {
-            print!(rt; "    host: ")?;
-            show::refusal(rt, why)?;
-            println!(rt; "")
-        }
+        Err(why) => println!(rt; "    host: {}", Refused(why)),
     }
 }
 
-// The sheet that the host writes for the squares.
-fn print_sheet(
+// Describes a question, and asks it.
+fn describe_and_ask<Q: Question<Mod65537>>(
     rt: &impl Print,
-    host: &host::Sealed<Mod65537>,
-    counts: &Bank<'_, i32>,
+    ends: &Sealed<'_>,
+    what: &str,
+    question: &Q,
 ) -> io::Result<()> {
+    println!(rt; "  question: {what}")?;
+    let grid = ends.host.book().grid();
+    describe(rt, question, grid, Mod65537::image(5), ends.sums.cells())?;
+    ask(rt, ends, question)
+}
+
+// The sheet that the host writes for the squares.
+fn print_sheet(rt: &impl Print, ends: &Sealed<'_>) -> io::Result<()> {
     let mut tray = [Mod65537::zero(); 11];
     let mut paper = [0u8; 9216];
-    let Ok((_, length)) = host.answer(counts, &Squares, &mut tray, &mut paper) else {
+    let answer = ends
+        .host
+        .answer(&ends.counts, &Squares, &mut tray, &mut paper);
+    let Ok((_, length)) = answer else {
         return Ok(());
     };
-    if length > paper.len() {
-        return Ok(());
-    }
-    match from_utf8(&paper[0..length]) {
+    match from_utf8(paper.get(0..length).unwrap_or(&[])) {
         Ok(text) => print!(rt; "{text}"),
         Err(_) => Ok(()),
     }
 }
 
-pub fn ask_all(
-    rt: &impl Print,
-    host: &host::Sealed<Mod65537>,
-    counts: &Bank<'_, i32>,
-    verifier: &verifier::Sealed<Mod65537>,
-    sums: &Bank<'_, Mod65537>,
-) -> io::Result<()> {
-    let grid = host.book().grid();
-    let point = Mod65537::image(5);
-    println!(rt; "  question: the count of cell 9")?;
-    describe(rt, &Cell { index: 9 }, grid, point, sums.cells())?;
-    ask(rt, host, counts, verifier, sums, &Cell { index: 9 })?;
-    println!(rt; "  question: the counts of goods 1")?;
-    describe(rt, &Goods { kind: 1 }, grid, point, sums.cells())?;
-    ask(rt, host, counts, verifier, sums, &Goods { kind: 1 })?;
-    println!(rt; "  question: the counts of cells 8 to 9")?;
-    describe(rt, &Range { first: 8, last: 9 }, grid, point, sums.cells())?;
-    ask(
-        rt,
-        host,
-        counts,
-        verifier,
-        sums,
-        &Range { first: 8, last: 9 },
-    )?;
+pub fn ask_all(rt: &impl Print, ends: &Sealed<'_>) -> io::Result<()> {
+    let range = Range { first: 8, last: 9 };
+    describe_and_ask(rt, ends, "the count of cell 9", &Cell { index: 9 })?;
+    describe_and_ask(rt, ends, "the counts of goods 1", &Goods { kind: 1 })?;
+    describe_and_ask(rt, ends, "the counts of cells 8 to 9", &range)?;
     println!(rt; "  question: the counts of cells 9 to 8")?;
-    ask(
-        rt,
-        host,
-        counts,
-        verifier,
-        sums,
-        &Range { first: 9, last: 8 },
-    )?;
-    println!(rt; "  question: the squares of all counts")?;
-    describe(rt, &Squares, grid, point, sums.cells())?;
-    ask(rt, host, counts, verifier, sums, &Squares)?;
+    ask(rt, ends, &Range { first: 9, last: 8 })?;
+    describe_and_ask(rt, ends, "the squares of all counts", &Squares)?;
     println!(rt; "  and its sheet")?;
-    print_sheet(rt, host, counts)
+    print_sheet(rt, ends)
 }

@@ -1,5 +1,5 @@
 // Whole trials over each field.
-use crate::show;
+use crate::show::{Judged, Parts};
 use board::{Bank, Move};
 use extension::Extension;
 use field::Field;
@@ -28,38 +28,31 @@ const MOVES: [Move; 5] = [
 ];
 
 // A trial for the squares, from the opening of both ends to the judged sheet, and how many points could let a wrong claim by.
+// Bank and tray are the caller's: tried, the proof did not close where arrays of a type parameter are lent on from here.
 fn print_trial<F: Field>(
     rt: &impl Print,
     point: F,
     sums: &mut [F],
     tray: &mut [F],
 ) -> io::Result<()> {
-    let p = u64::from(F::characteristic());
-    let points = if F::degree() == 1 {
-        p
-    } else {
-        p.saturating_mul(p)
-    };
+    let points = u64::from(F::characteristic()).saturating_pow(F::degree());
     let mut counts = [0i32; 16];
     let mut paper = [0u8; 9216];
-    let mut counts = Bank::new(&mut counts);
-    let mut sums = Bank::new(sums);
-    print!(rt; "  at parts")?;
-    show::parts(rt, point)?;
-    print!(rt; ", at most 2 of {points} points let a wrong claim by: ")?;
-    show::judgement(
-        rt,
-        play_trial(
-            2,
-            8,
-            point,
-            &MOVES,
-            &Squares,
-            &mut counts,
-            &mut sums,
-            tray,
-            &mut paper,
-        ),
+    let found = play_trial(
+        2,
+        8,
+        point,
+        &MOVES,
+        &Squares,
+        &mut Bank::new(&mut counts),
+        &mut Bank::new(sums),
+        tray,
+        &mut paper,
+    );
+    println!(rt;
+        "  at {}, at most 2 of {points} points let a wrong claim by: {}",
+        Parts(point),
+        Judged(found)
     )
 }
 

@@ -1,0 +1,58 @@
+// The rules of the questions, straight from their words.
+use crate::ask::Ask;
+use crate::element::Element;
+use crate::game::Game;
+use std::alloc::AllocError;
+
+impl Game {
+    // The element that a question's rule gives at a point, from the columns there.
+    pub fn rule(
+        self,
+        ask: Ask,
+        point: Element,
+        columns: &[Element],
+    ) -> Result<Element, AllocError> {
+        match ask {
+            Ask::Cell(i) => self.cells_rule(i, i, point, columns),
+            Ask::Goods(g) => Ok(self.goods_rule(g, columns)),
+            Ask::Range(a, b) => self.cells_rule(a, b, point, columns),
+            Ask::Squares => Ok(self.squares_rule(columns)),
+            Ask::Stated(_) => Ok(Element::zero()),
+        }
+    }
+
+    // The sum of χ_x(X) × c_y over the cells from first to last.
+    fn cells_rule(
+        self,
+        first: u64,
+        last: u64,
+        point: Element,
+        columns: &[Element],
+    ) -> Result<Element, AllocError> {
+        let basis = self.basis(point)?;
+        let mut all = Element::zero();
+        for cell in first..=last {
+            let (x, y) = self.at.place(cell);
+            let weight = basis.get(x).copied().unwrap_or(Element::zero());
+            let column = columns.get(y).copied().unwrap_or(Element::zero());
+            all = self.field.sum(all, self.field.product(weight, column));
+        }
+        Ok(all)
+    }
+
+    // The sum of the columns of the goods: every eighth.
+    fn goods_rule(self, goods: u64, columns: &[Element]) -> Element {
+        columns.iter().skip(goods as usize).step_by(8).fold(
+            Element::zero(),
+            |all, column| self.field.sum(all, *column),
+        )
+    }
+
+    // The sum of the squares of the columns.
+    fn squares_rule(self, columns: &[Element]) -> Element {
+        columns.iter().fold(
+            Element::zero(),
+            |all, column| self.field.sum(all, self.field.product(*column, *column)),
+        )
+    }
+}
