@@ -25,7 +25,7 @@ fn compare_two<F: Field>(table: &mut Table, a: Element, b: Element) {
         x.opposite(),
         field.difference(Element::zero(), a),
     );
-    table.report.holds("sameness", x.is_same(y) == (a == b));
+    table.report.holds("sameness", (x == y) == (a == b));
     match x.inverse() {
         Some(inverse) => compare(table, "an inverse", inverse, field.inverse(a)),
         None => table.report.holds("no inverse", a == Element::zero()),
