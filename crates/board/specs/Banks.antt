@@ -1,5 +1,6 @@
 -- A bank: a row of cells over memory that the caller supplies. Assumes nothing.
-use Rattle.std.specs.Prelude.{ℕ, cond, List, ◌++◌, length, drop, replicate, Ok, Err, Result, nat_le, nat_lt}
+use Rattle.std.specs.Prelude.{◌≡◌, ℕ, cond, List, ◌++◌, length, drop, replicate, Ok, Err, Result, nat_le, nat_lt}
+use denote.Ref.{MutBor}
 use Rattle.board.specs.declared.refusal.Refusal.{Refusal}
 use Rattle.board.specs.declared.refusal.Refusal.TheVariants.{BankShort}
 
@@ -19,3 +20,8 @@ filled n x cells = replicate n x ++ drop n cells
 abbrev pub kept_or : {A B : Type 0} → Result B Refusal → A → A → A
 kept_or (Ok u) old new = new
 kept_or (Err r) old new = old
+
+-- the memory that was lent, of the same lender, with these cells
+pub record Rewritten {A : Type 0} (old new : MutBor (List A)) (cells : List A) : Type 0 where
+  pub holds : new.now ≡ cells
+  pub lender : new.ghost_name ≡ old.ghost_name

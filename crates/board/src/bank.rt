@@ -1,7 +1,7 @@
 // A bank: a row of cells over memory that the caller supplies, for elements of any one kind.
 ghost use Rattle.std.specs.Prelude.{◌≡◌, ◌≤◌, length, slice_set};
 ghost use Rattle.std.specs.List.{slice_get};
-ghost use Rattle.board.specs.Banks.{reached, room_for, filled, kept_or};
+ghost use Rattle.board.specs.Banks.{reached, room_for, filled, kept_or, Rewritten};
 
 use crate::refusal::Refusal;
 
@@ -50,8 +50,7 @@ impl<'a, T: Copy> Bank<'a, T> {
     // Puts x into cell i; where there is no such cell, it refuses and nothing changes.
     pub fn put(&mut self, i: usize, x: T) -> Result<(), Refusal>
         ensures answer { result ≡ reached self.old.cells.now i }
-        ensures cells { self.new.cells.now ≡ slice_set self.old.cells.now i x }
-        ensures lender { self.new.cells.ghost_name ≡ self.old.cells.ghost_name }
+        ensures cells { Rewritten self.old.cells self.new.cells (slice_set self.old.cells.now i x) }
     {
         // by index: of a write through `get_mut` a proof knows no element
         if i >= self.cells.len() {
@@ -63,8 +62,7 @@ impl<'a, T: Copy> Bank<'a, T> {
 
     // Puts x into every cell.
     pub fn fill(&mut self, x: T)
-        ensures cells { self.new.cells.now ≡ filled (length self.old.cells.now) x self.old.cells.now }
-        ensures lender { self.new.cells.ghost_name ≡ self.old.cells.ghost_name }
+        ensures cells { Rewritten self.old.cells self.new.cells (filled (length self.old.cells.now) x self.old.cells.now) }
     {
         let n = self.cells.len();
         fill_cells(self.cells, n, x);
@@ -73,8 +71,7 @@ impl<'a, T: Copy> Bank<'a, T> {
     // Puts x into the first n cells; where there are fewer, it refuses and nothing changes.
     pub fn fill_front(&mut self, n: usize, x: T) -> Result<(), Refusal>
         ensures answer { result ≡ room_for n self.old.cells.now }
-        ensures cells { self.new.cells.now ≡ kept_or result self.old.cells.now (filled n x self.old.cells.now) }
-        ensures lender { self.new.cells.ghost_name ≡ self.old.cells.ghost_name }
+        ensures cells { Rewritten self.old.cells self.new.cells (kept_or result self.old.cells.now (filled n x self.old.cells.now)) }
     {
         if self.cells.len() < n {
             return Err(Refusal::BankShort);

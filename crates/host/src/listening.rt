@@ -1,6 +1,6 @@
 // A host that listens: open, note, seal.
 ghost use Rattle.std.specs.Prelude.{◌≡◌, ◌<◌, ◌≤◌, length, Ok, unsigned_abs};
-ghost use Rattle.board.specs.Banks.{kept_or};
+ghost use Rattle.board.specs.Banks.{kept_or, Rewritten};
 ghost use Rattle.board.specs.Ledger.{added_count};
 ghost use Rattle.board.specs.Books.{granted, standing};
 ghost use Rattle.host.specs.Calls.{host_open_answer, host_open_bank, count_answer, host_note_answer, host_note_standing, host_note_bank};
@@ -17,8 +17,7 @@ fn add_count(bank: &mut Bank<'_, i32>, limit: u32, m: Move) -> Result<(), Refusa
     requires small { unsigned_abs m.amount ≤ 256 }
     requires within { m.cell < length bank.old.cells.now }
     ensures answer { result ≡ count_answer limit (Ok tt) bank.old.cells.now m }
-    ensures bank { bank.new.cells.now ≡ kept_or result bank.old.cells.now (added_count bank.old.cells.now m) }
-    ensures lender { bank.new.cells.ghost_name ≡ bank.old.cells.ghost_name }
+    ensures bank { Rewritten bank.old.cells bank.new.cells (kept_or result bank.old.cells.now (added_count bank.old.cells.now m)) }
 {
     let cell = m.cell as usize;
     let count = bank.get(cell).ok_or(Refusal::BankShort)?;
@@ -33,8 +32,7 @@ impl<F: Field> Listening<F> {
     pub fn open(rows: u64, columns: u64, bank: &mut Bank<'_, i32>) -> Result<Listening<F>, Refusal>
         ensures answer { granted result ≡ host_open_answer rows columns bank.old.cells.now }
         ensures opened { Opened rows columns result }
-        ensures bank { bank.new.cells.now ≡ host_open_bank rows columns bank.old.cells.now }
-        ensures lender { bank.new.cells.ghost_name ≡ bank.old.cells.ghost_name }
+        ensures bank { Rewritten bank.old.cells bank.new.cells (host_open_bank rows columns bank.old.cells.now) }
     {
         let grid = Grid::new(rows, columns)?;
         bank.fill_front(grid.cells() as usize, 0)?;
@@ -48,8 +46,7 @@ impl<F: Field> Listening<F> {
     pub fn note(&mut self, bank: &mut Bank<'_, i32>, m: Move) -> Result<(), Refusal>
         ensures answer { result ≡ host_note_answer F.Field.model.limit (standing self.old.book) bank.old.cells.now m }
         ensures standing { standing self.new.book ≡ host_note_standing F.Field.model.limit (standing self.old.book) bank.old.cells.now m }
-        ensures bank { bank.new.cells.now ≡ host_note_bank F.Field.model.limit (standing self.old.book) bank.old.cells.now m }
-        ensures lender { bank.new.cells.ghost_name ≡ bank.old.cells.ghost_name }
+        ensures bank { Rewritten bank.old.cells bank.new.cells (host_note_bank F.Field.model.limit (standing self.old.book) bank.old.cells.now m) }
     {
         let limit = F::limit();
         if bank.len() < self.book.grid().cells() as usize {

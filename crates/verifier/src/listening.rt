@@ -1,5 +1,6 @@
 // A box that listens: open, note, seal.
 ghost use Rattle.std.specs.Prelude.{◌≡◌, ◌*◌, ◌<◌, ◌≤◌, length, Ok, unsigned_abs};
+ghost use Rattle.board.specs.Banks.{Rewritten};
 ghost use Rattle.board.specs.Books.{granted, standing};
 ghost use Rattle.verifier.specs.Calls.{verifier_open_answer, verifier_open_bank, added_column, verifier_note_answer, verifier_note_standing, verifier_note_bank};
 ghost use Rattle.verifier.specs.Granted.{Opened};
@@ -15,8 +16,7 @@ fn add_share<F: Field>(bank: &mut Bank<'_, F>, grid: Grid, point: F, m: Move) ->
     requires small { unsigned_abs m.amount ≤ 256 }
     requires long { grid.columns ≤ length bank.old.cells.now }
     ensures answer { result ≡ Ok tt }
-    ensures bank { bank.new.cells.now ≡ added_column F.Field.model grid.rows grid.columns point bank.old.cells.now m }
-    ensures lender { bank.new.cells.ghost_name ≡ bank.old.cells.ghost_name }
+    ensures bank { Rewritten bank.old.cells bank.new.cells (added_column F.Field.model grid.rows grid.columns point bank.old.cells.now m) }
 {
     let row = grid.row_of(m.cell) as u32;
     let column = grid.column_of(m.cell) as usize;
@@ -35,8 +35,7 @@ impl<F: Field> Listening<F> {
     ) -> Result<Listening<F>, Refusal>
         ensures answer { granted result ≡ verifier_open_answer F.Field.model rows columns bank.old.cells.now }
         ensures opened { Opened rows columns point result }
-        ensures bank { bank.new.cells.now ≡ verifier_open_bank F.Field.model rows columns bank.old.cells.now }
-        ensures lender { bank.new.cells.ghost_name ≡ bank.old.cells.ghost_name }
+        ensures bank { Rewritten bank.old.cells bank.new.cells (verifier_open_bank F.Field.model rows columns bank.old.cells.now) }
     {
         let grid = Grid::new(rows, columns)?;
         bank.fill_front(grid.columns() as usize, F::zero())?;
@@ -51,8 +50,7 @@ impl<F: Field> Listening<F> {
         ensures answer { result ≡ verifier_note_answer F.Field.model (standing self.old.book) bank.old.cells.now m }
         ensures standing { standing self.new.book ≡ verifier_note_standing F.Field.model (standing self.old.book) bank.old.cells.now m }
         ensures point { self.new.point ≡ self.old.point }
-        ensures bank { bank.new.cells.now ≡ verifier_note_bank F.Field.model (standing self.old.book) self.old.point bank.old.cells.now m }
-        ensures lender { bank.new.cells.ghost_name ≡ bank.old.cells.ghost_name }
+        ensures bank { Rewritten bank.old.cells bank.new.cells (verifier_note_bank F.Field.model (standing self.old.book) self.old.point bank.old.cells.now m) }
     {
         let grid = self.book.grid();
         if bank.len() < grid.columns() as usize {
