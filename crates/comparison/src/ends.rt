@@ -89,7 +89,7 @@ impl<E: End> Pair<E> {
         let standing = E::opened_plainly(table.field, rows, columns, plain.as_mut_slice());
         let standing = wanted(standing)?;
         let names = E::names();
-        table.report.outcome(names.open, names.opening, &bare(&opened), &bare(&standing))?;
+        table.report.outcome(names.open, names.opening, &bare(&opened), &bare(&standing));
         let same = same(cells.as_slice(), plain.as_slice(), |x| E::plain(x));
         table.report.holds(names.opened_bank, same);
         let Ok(product) = opened else {
@@ -119,7 +119,7 @@ impl<E: End> Pair<E> {
         let names = E::names();
         table
             .report
-            .outcome(names.note, names.telling, &told, &bare(&plain))?;
+            .outcome(names.note, names.telling, &told, &bare(&plain));
         if let Ok(standing) = plain {
             self.standing = standing;
         }

@@ -26,9 +26,7 @@ impl<'a, F: Field, Q: Question<F>> Inquiry<'a, F, Q> {
         let read = found(read_sheet(sheet, &terms, tray.as_mut_slice()));
         let game = table.game(self.sealed.verifier_at);
         let plain = wanted(game.read_into(self.ask, sheet, plain_tray.as_mut_slice()))?;
-        table
-            .report
-            .outcome(Call::Read, "a reading", &read, &plain)?;
+        table.report.outcome(Call::Read, "a reading", &read, &plain);
         let same = same_elements(tray.as_slice(), plain_tray.as_slice());
         table.report.holds("the tray after a reading", same);
         Ok(())
@@ -55,7 +53,7 @@ impl<'a, F: Field, Q: Question<F>> Inquiry<'a, F, Q> {
         let plain = wanted(plain)?;
         table
             .report
-            .outcome(Call::Judge, "a judgement", &judged, &plain)?;
+            .outcome(Call::Judge, "a judgement", &judged, &plain);
         let same = same_elements(tray.as_slice(), plain_tray.as_slice());
         table.report.holds("the tray after a judgement", same);
         Ok(judged)

@@ -6,6 +6,7 @@ mod arithmetic;
 mod both;
 mod call;
 mod convert;
+mod counts;
 mod damage;
 mod dice;
 mod difference;

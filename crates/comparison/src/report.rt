@@ -1,9 +1,9 @@
 // What was compared, what came of it, and every difference.
 use crate::call::Call;
+use crate::counts::Counts;
 use crate::difference::Difference;
 use crate::outcome::{Outcome, number_of};
-use std::alloc::{AllocError, Global};
-use std::collections::BTreeMap;
+use std::alloc::Global;
 
 // Not more differences than these are kept.
 const KEPT: usize = 20;
@@ -14,8 +14,8 @@ pub struct Report {
     compared: u64,
     differing: u64,
     kept: Vec<Difference>,
-    // How often a call came to a refusal's number, or to none.
-    outcomes: BTreeMap<(Call, Option<u64>), u64>,
+    // Call by call. An array and no map: counting an outcome cannot run out of memory.
+    outcomes: [Counts; 8],
 }
 
 impl Report {
@@ -25,7 +25,7 @@ impl Report {
             compared: 0,
             differing: 0,
             kept: Vec::new(heap),
-            outcomes: BTreeMap::new(heap),
+            outcomes: [Counts::new(); 8],
         }
     }
 
@@ -67,16 +67,14 @@ impl Report {
         what: &'static str,
         found: &Outcome<T>,
         wanted: &Outcome<T>,
-    ) -> Result<(), AllocError> {
+    ) {
         let number = number_of(found);
-        let count = self.outcomes.entry((call, number))?.or_insert(0);
-        *count = count.wrapping_add(1);
+        self.outcomes[call as usize].add(number);
         if number == number_of(wanted) {
             self.holds(what, found == wanted);
         } else {
             self.number(what, found, number_of(wanted));
         }
-        Ok(())
     }
 
     pub fn games(&self) -> u64 {
@@ -99,6 +97,6 @@ impl Report {
 
     // How often a call came to a refusal's number, or to none.
     pub fn count(&self, call: Call, number: Option<u64>) -> u64 {
-        self.outcomes.get(&(call, number)).copied().unwrap_or(0)
+        self.outcomes[call as usize].of(number)
     }
 }

@@ -34,7 +34,7 @@ impl<'a, F: Field, Q: Question<F>> Inquiry<'a, F, Q> {
         let laid = wanted(laid)?;
         table
             .report
-            .outcome(Call::Write, "a writing", &written, &laid)?;
+            .outcome(Call::Write, "a writing", &written, &laid);
         table
             .report
             .holds("the paper after a writing", paper == plain_paper);

@@ -12,7 +12,7 @@ const NUMBERS: [u64; 19] = [
 fn print_call(rt: &impl Print, report: &Report, call: Call) -> io::Result<()> {
     let granted = report.count(call, None);
     print!(rt; "{call}: {granted} granted")?;
-    for number in NUMBERS {
+    for number in 1..63 {
         let count = report.count(call, Some(number));
         if count > 0 {
             print!(rt; ", {number}: {count}")?;
