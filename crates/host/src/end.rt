@@ -1,4 +1,4 @@
-// The host's two states. The host is the prover: it keeps a count for every cell of the board.
+// The host's two states, each a type of its own by a rule of the project, so each has its own `book`. The host is the prover: it keeps a count for every cell of the board.
 use board::Book;
 use std::marker::PhantomData;
 

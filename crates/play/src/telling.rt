@@ -7,7 +7,7 @@ ghost use Rattle.play.specs.States.{host_state, verifier_state};
 use board::{Bank, Move};
 use field::Field;
 
-// Tells a host moves, refused ones too.
+// Tells a host moves, refused ones too. The loop for a box is a twin: a trait for both ends, with two impls, would be longer than both loops.
 pub(crate) fn tell_host<F: Field>(
     host: &mut host::Listening<F>,
     bank: &mut Bank<'_, i32>,
