@@ -3,3 +3,4 @@ pub mod Grids
 pub mod Ledger
 pub mod Banks
 pub mod Books
+pub mod Words

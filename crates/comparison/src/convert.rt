@@ -27,7 +27,7 @@ pub fn elements<F: Field>(heap: Global, xs: &[Element]) -> Result<Vec<F>, AllocE
 }
 
 // Whether what was found is, in plain numbers, what is wanted, one by one.
-pub fn same<X: Copy, Y: Copy + PartialEq, P: Fn(X) -> Y>(
+pub(crate) fn same<X: Copy, Y: Copy + PartialEq, P: Fn(X) -> Y>(
     found: &[X],
     wanted: &[Y],
     plain: P,

@@ -124,7 +124,14 @@ fn one_row_and_short_trays(rt: HostRuntime) -> Result<(), Fail> {
     for (point, sheet, found) in cases {
         check_judged(&rt, 1, point, sheet, &mut [zero; 8], &mut [zero; 1], found)?;
     }
-    let mut sums = [zero; 8];
-    check_judged(&rt, 2, five, TRUE_SHEET, &mut sums, &mut [zero; 2], Err(21))?;
-    check_judged(&rt, 2, five, b"", &mut sums, &mut [zero; 3], Err(31))
+    check_judged(
+        &rt,
+        2,
+        five,
+        TRUE_SHEET,
+        &mut [zero; 8],
+        &mut [zero; 2],
+        Err(21),
+    )?;
+    check_judged(&rt, 2, five, b"", &mut [zero; 8], &mut [zero; 3], Err(31))
 }

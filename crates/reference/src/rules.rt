@@ -40,12 +40,15 @@ impl Game {
         Ok(all)
     }
 
-    // The sum of the columns of the goods: every eighth.
+    // The sum of the columns of the goods.
     fn goods_rule(self, goods: u64, columns: &[Element]) -> Element {
-        columns.iter().skip(goods as usize).step_by(8).fold(
-            Element::zero(),
-            |all, column| self.field.sum(all, *column),
-        )
+        columns
+            .iter()
+            .enumerate()
+            .filter(|(y, _)| *y as u64 % 8 == goods)
+            .fold(Element::zero(), |all, (_, column)| {
+                self.field.sum(all, *column)
+            })
     }
 
     // The sum of the squares of the columns.

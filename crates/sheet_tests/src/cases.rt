@@ -33,6 +33,8 @@ fn check_refused(
         Ok(_) => Err(Fail::new("a damaged sheet was read")),
         Err(refusal) => {
             assert_eq!(rt; refusal, Refusal::Sheet { fault, line, place });
+            assert_eq!(rt; refusal.number(), fault.number());
+            assert_eq!(rt; refusal.position(), Some((line, place)));
             assert_eq!(rt; (tray[0].low(), tray[1].low()), (0, 0));
             assert_eq!(rt; (tray[2].low(), tray[3].low()), (0, 1));
             Ok(())

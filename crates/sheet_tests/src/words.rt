@@ -1,4 +1,4 @@
-// What each refusal says in words.
+// The number of each refusal, where it lies, and what it says in words.
 use board::{Fault, Refusal};
 use std::test::Fail;
 
@@ -8,62 +8,100 @@ const AT: Refusal = Refusal::Sheet {
     place: 39,
 };
 
-const WORDS: [(Refusal, &str); 12] = [
-    (Refusal::CellOutside, "the move's cell is not on the board"),
+const REFUSALS: [(Refusal, u8, &str); 12] = [
+    (
+        Refusal::CellOutside,
+        1,
+        "the move's cell is not on the board",
+    ),
     (
         Refusal::AmountOutside,
-        "the move's amount is 0 or outside −256 to 256",
+        2,
+        "the move's amount is 0 or outside -256 to 256",
     ),
     (
         Refusal::TooHeavy,
+        3,
         "the move takes the weight past the field's limit",
     ),
     (
         Refusal::GridOutside,
+        10,
         "the rows or the columns are outside their limits",
     ),
-    (Refusal::BankShort, "the bank has too few cells"),
+    (Refusal::BankShort, 12, "the bank has too few cells"),
     (
         Refusal::CountOutside,
+        13,
         "a count, or the counts together, are beyond the field's limit",
     ),
-    (Refusal::QuestionUnfit, "the question does not fit the grid"),
-    (Refusal::TrayShort, "the tray has too few elements"),
-    (Refusal::PaperShort, "the paper has too few bytes"),
+    (
+        Refusal::QuestionUnfit,
+        20,
+        "the question does not suit the grid",
+    ),
+    (Refusal::TrayShort, 21, "the tray has too few elements"),
+    (
+        Refusal::PaperShort,
+        22,
+        "the paper has too few bytes, or the values are too many",
+    ),
     (
         AT,
+        42,
         "line 2, byte 39 of the sheet: a number of the tag is not the question's",
     ),
     (
         Refusal::SumWrong,
+        50,
         "the first values do not add up to the claim",
     ),
-    (Refusal::PointWrong, "the values fail at the secret point"),
+    (
+        Refusal::PointWrong,
+        51,
+        "the values fail at the secret point",
+    ),
 ];
 
-const FAULTS: [(Fault, &str); 8] = [
+const FAULTS: [(Fault, u8, &str); 8] = [
     (
         Fault::Malformed,
+        30,
         "a run that is neither a word nor a number",
     ),
     (
         Fault::Unexpected,
+        31,
         "a token, or the sheet's end, where the grammar has another",
     ),
     (
         Fault::Field,
+        40,
         "the characteristic or the degree is not the field's",
     ),
-    (Fault::Grid, "the rows or the columns are not the grid's"),
-    (Fault::Tag, "a number of the tag is not the question's"),
-    (Fault::Claim, "the claim is outside the question's limits"),
-    (Fault::Index, "the value line is not the next one"),
-    (Fault::Part, "a part of a value is no part of an element"),
+    (
+        Fault::Grid,
+        41,
+        "the rows or the columns are not the grid's",
+    ),
+    (Fault::Tag, 42, "a number of the tag is not the question's"),
+    (
+        Fault::Claim,
+        43,
+        "the claim is outside the question's limits",
+    ),
+    (Fault::Index, 44, "the value line is not the next one"),
+    (
+        Fault::Part,
+        45,
+        "a part of a value is no part of an element",
+    ),
 ];
 
 #[test]
-fn refusals_in_words(rt: HostRuntime) -> Result<(), Fail> {
-    for (refusal, words) in WORDS.iter() {
+fn refusals_in_numbers_and_words(rt: HostRuntime) -> Result<(), Fail> {
+    for (refusal, number, words) in REFUSALS.iter() {
+        assert_eq!(rt; refusal.number(), *number);
         let text = format!(in rt.alloc(); "{refusal}")?;
         assert_eq!(rt; text.as_str(), *words);
     }
@@ -71,8 +109,9 @@ fn refusals_in_words(rt: HostRuntime) -> Result<(), Fail> {
 }
 
 #[test]
-fn faults_in_words(rt: HostRuntime) -> Result<(), Fail> {
-    for (fault, words) in FAULTS.iter() {
+fn faults_in_numbers_and_words(rt: HostRuntime) -> Result<(), Fail> {
+    for (fault, number, words) in FAULTS.iter() {
+        assert_eq!(rt; fault.number(), *number);
         let text = format!(in rt.alloc(); "{fault}")?;
         assert_eq!(rt; text.as_str(), *words);
     }
