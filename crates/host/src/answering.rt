@@ -8,7 +8,7 @@ use board::{Grid, Refusal};
 use field::Field;
 use protocol::Suited;
 use question::Question;
-use writer::write_sheet;
+use writer::{ENOUGH_PAPER, write_sheet};
 
 // The claim and the sheet's length, with the values and the columns in the tray and the sheet on the paper; or a refusal, and nothing changes.
 pub(crate) fn answer_counts<F: Field, Q: Question<F>>(
@@ -31,7 +31,7 @@ pub(crate) fn answer_counts<F: Field, Q: Question<F>>(
     if tray.len() < degree + 1 + grid.columns() as usize {
         return Err(Refusal::TrayShort);
     }
-    if paper.len() < 9216 {
+    if paper.len() < ENOUGH_PAPER {
         return Err(Refusal::PaperShort);
     }
     let claim = question.tally(grid, counts);

@@ -31,21 +31,15 @@ impl<'a, F: Field, Q: Question<F>> Suited<'a, F, Q> {
         ensures question { IfOk result (λ asked. asked.question.now ≡ question.now) }
         ensures grid { IfOk result (λ asked. asked.grid ≡ grid) }
     {
+        let degree = question.degree(grid);
         match question.fit(grid) {
-            Fit::Fits => {
-                let degree = question.degree(grid);
-                if grid.rows() <= degree.saturating_add(1) && degree <= 252 {
-                    Ok(Suited {
-                        question,
-                        grid,
-                        degree,
-                        field: PhantomData,
-                    })
-                } else {
-                    Err(Refusal::QuestionUnfit)
-                }
-            }
-            Fit::DoesNotFit => Err(Refusal::QuestionUnfit),
+            Fit::Fits if grid.rows() <= degree.saturating_add(1) && degree <= 252 => Ok(Suited {
+                question,
+                grid,
+                degree,
+                field: PhantomData,
+            }),
+            _ => Err(Refusal::QuestionUnfit),
         }
     }
 

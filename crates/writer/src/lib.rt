@@ -9,4 +9,4 @@ mod put;
 mod writer;
 
 pub use laws::{reads_back, text_fits};
-pub use writer::write_sheet;
+pub use writer::{ENOUGH_PAPER, write_sheet};

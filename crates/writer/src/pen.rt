@@ -36,7 +36,7 @@ impl<'a> Pen<'a> {
         self.at = end;
     }
 
-    // A natural number in decimal.
+    // A natural number in decimal, by hand: a `write!` may fail, and this may not.
     pub(crate) fn decimal(&mut self, n: u64)
         requires { Room (decimal n) self.old }
         ensures { Puts (decimal n) self.old self.new }

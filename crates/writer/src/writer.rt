@@ -13,7 +13,7 @@ use sheet::Terms;
 const MOST_VALUES: usize = 253;
 
 // No sheet of so many values has more bytes.
-const ENOUGH_PAPER: usize = 9216;
+pub const ENOUGH_PAPER: usize = 9216;
 
 impl Pen<'_> {
     // The value lines and the last line.
@@ -49,7 +49,7 @@ fn put_sheet<F: Field>(paper: &mut [u8], terms: &Terms, claim: i64, values: &[F]
 }
 
 // Writes a sheet where it has no more values than a sheet may have and the paper is enough for every such sheet.
-// It takes the terms by value: behind a reference a proof does not know that their numbers are in range.
+// It takes the terms by value. Tried with a copy inside `write_sheet`: the proof does not close, since of numbers behind a reference it knows no range.
 fn write<F: Field>(
     paper: &mut [u8],
     terms: Terms,
