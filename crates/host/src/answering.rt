@@ -2,7 +2,7 @@
 ghost use Rattle.std.specs.Prelude.{◌≡◌};
 ghost use Rattle.host.specs.Answering.{answered};
 
-use crate::counts::absolute_sum;
+use crate::counts::{Counts, absolute_sum};
 use crate::values::fill_values;
 use board::{Grid, Refusal};
 use field::Field;
@@ -20,12 +20,13 @@ pub(crate) fn answer_counts<F: Field, Q: Question<F>>(
 ) -> Result<(i64, usize), Refusal>
     ensures { record { answer = result; tray = tray.new; paper = paper.new } ≡ answered F.Field.model grid.rows grid.columns cells.now (Q.Question.meaning question.now) tray.old paper.old }
 {
-    let counts = cells
+    let cells = cells
         .get(..grid.cells() as usize)
         .ok_or(Refusal::BankShort)?;
-    if absolute_sum(counts) > u64::from(F::limit()) {
+    if absolute_sum(cells) > u64::from(F::limit()) {
         return Err(Refusal::CountOutside);
     }
+    let counts = Counts { grid, cells };
     let asked = Suited::new(question, grid)?;
     let degree = asked.degree as usize;
     if tray.len() < degree + 1 + grid.columns() as usize {
@@ -34,8 +35,8 @@ pub(crate) fn answer_counts<F: Field, Q: Question<F>>(
     if paper.len() < ENOUGH_PAPER {
         return Err(Refusal::PaperShort);
     }
-    let claim = question.tally(grid, counts);
-    fill_values(&asked, counts, tray);
+    let claim = question.tally(grid, cells);
+    fill_values(&asked, &counts, tray);
     let length = write_sheet(paper, &asked.terms(), claim, &tray[..degree + 1])?;
     Ok((claim, length))
 }

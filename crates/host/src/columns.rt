@@ -1,8 +1,9 @@
 // The columns of the counts at a point.
-ghost use Rattle.std.specs.Prelude.{◌≡◌, ◌*◌, ◌≤◌, length};
+ghost use Rattle.std.specs.Prelude.{◌≡◌, ◌≤◌, length};
 ghost use Rattle.polynomial.specs.Columns.{columns};
 ghost use Rattle.host.specs.Rows.{added_row, Ranged};
 
+use crate::counts::Counts;
 use board::fill_cells;
 use field::Field;
 use polynomial::basis_at;
@@ -20,21 +21,14 @@ fn add_row<F: Field>(sums: &mut [F], counts: &[i32], weight: F)
 }
 
 // Fills `sums` with the columns of the counts at a point. The weight of a row is computed once.
-pub(crate) fn fill_columns<F: Field>(sums: &mut [F], counts: &[i32], rows: u32, point: F)
-    requires small { rows ≤ 64 }
-    requires narrow { length sums.old ≤ 1024 }
-    requires long { rows * length sums.old ≤ length counts.now }
-    requires ranged { Ranged counts.now }
-    ensures { sums.new ≡ columns F.Field.model rows (length sums.old) counts.now point }
+pub(crate) fn fill_columns<F: Field>(sums: &mut [F], counts: &Counts<'_>, point: F)
+    requires { length sums.old ≡ counts.now.grid.columns }
+    ensures { sums.new ≡ columns F.Field.model counts.now.grid.rows counts.now.grid.columns counts.now.cells.now point }
 {
     let width = sums.len();
     fill_cells(sums, width, F::zero());
+    let rows = counts.grid.rows();
     for x in (0..rows).rev() {
-        let start = x as usize * width;
-        add_row(
-            sums,
-            &counts[start..start + width],
-            basis_at(rows, x, point),
-        );
+        add_row(sums, counts.row(x), basis_at(rows, x, point));
     }
 }

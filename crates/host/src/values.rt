@@ -1,11 +1,11 @@
 // The values of a question's polynomial.
-ghost use Rattle.std.specs.Prelude.{◌≡◌, suc, ◌+◌, ◌*◌, ◌≤◌, ◌++◌, length, drop};
+ghost use Rattle.std.specs.Prelude.{◌≡◌, suc, ◌+◌, ◌≤◌, ◌++◌, length, drop};
 ghost use Rattle.polynomial.specs.Columns.{columns};
 ghost use Rattle.polynomial.specs.Interpolation.{node};
 ghost use Rattle.protocol.specs.Asking.{honest};
-ghost use Rattle.host.specs.Rows.{Ranged};
 
 use crate::columns::fill_columns;
+use crate::counts::Counts;
 use field::Field;
 use polynomial::node_at;
 use protocol::Suited;
@@ -14,19 +14,18 @@ use question::Question;
 // Fills the tray of an answer: the question's values at 0 to its degree, and behind them the columns at the degree.
 pub(crate) fn fill_values<F: Field, Q: Question<F>>(
     asked: &Suited<'_, F, Q>,
-    counts: &[i32],
+    counts: &Counts<'_>,
     tray: &mut [F],
 )
-    requires long { asked.now.grid.rows * asked.now.grid.columns ≤ length counts.now }
-    requires ranged { Ranged counts.now }
+    requires grid { counts.now.grid ≡ asked.now.grid }
     requires room { suc asked.now.degree + asked.now.grid.columns ≤ length tray.old }
-    ensures { tray.new ≡ honest F.Field.model asked.now.grid.rows asked.now.grid.columns (Q.Question.meaning asked.now.question.now) counts.now ++ (columns F.Field.model asked.now.grid.rows asked.now.grid.columns counts.now (node F.Field.model asked.now.degree) ++ drop (suc asked.now.degree + asked.now.grid.columns) tray.old) }
+    ensures { tray.new ≡ honest F.Field.model asked.now.grid.rows asked.now.grid.columns (Q.Question.meaning asked.now.question.now) counts.now.cells.now ++ (columns F.Field.model asked.now.grid.rows asked.now.grid.columns counts.now.cells.now (node F.Field.model asked.now.degree) ++ drop (suc asked.now.degree + asked.now.grid.columns) tray.old) }
 {
     let (values, rest) = tray.split_at_mut(asked.degree as usize + 1);
     let columns = &mut rest[..asked.grid.columns() as usize];
     for (j, value) in values.iter_mut().enumerate() {
         let point = node_at(j as u32);
-        fill_columns(columns, counts, asked.grid.rows(), point);
+        fill_columns(columns, counts, point);
         *value = asked.question.rule(asked.grid, point, columns);
     }
 }

@@ -12,11 +12,12 @@ use Rattle.host.specs.Answering.{tray_filled}
 use Rattle.host.proofs.Answered.{given, granted, take_honest, write_granted, paper_granted, light_ranged}
 use Rattle.host.proofs.answering.answer_counts.Goals as goal
 
-pub fill_values-requires-clause-ranged : goal.fill_values-requires-clause-ranged
-fill_values-requires-clause-ranged g c =
-    let counts = c.in_ok-counts.counts.now in
-    let light : abs_sum counts ≤ g.F.Field.model.limit = omega (arith, c.absolute_sum.ensures, c.from.ensures, c.limit.ensures, c.if-absolute_sum-from.false) in
-    light_ranged g.met.F.Field.lawful counts light
+pub invariant_of-counts : goal.invariant_of-counts
+invariant_of-counts g c =
+    let cells = c.in_ok-cells.cells.now in
+    let got = (rw c.in_ok-cells.ensures.ok_part at c.get.ensures.lookup).0 in
+    let light : abs_sum cells ≤ g.F.Field.model.limit = omega (arith, c.absolute_sum.ensures, c.from.ensures, c.limit.ensures, c.if-absolute_sum-from.false) in
+    record { whole = omega (arith, got.3, c.cells.ensures); ranged = light_ranged g.met.F.Field.lawful cells light }
 
 pub returns : goal.returns
 returns g c =
@@ -28,10 +29,10 @@ returns g c =
     let tray = c.args.tray.now in
     let paper = c.args.paper.now in
     let asked = c.in_ok-asked.asked in
-    let got = (rw c.in_ok-counts.ensures.ok_part at c.get.ensures.lookup).0 in
+    let got = (rw c.in_ok-cells.ensures.ok_part at c.get.ensures.lookup).0 in
     let fs = take (h * v) cells in
     let count : c.cells.result - 0 ≡ h * v = omega (arith, c.cells.ensures) in
-    let counts : c.in_ok-counts.counts.now ≡ fs = got.2 ∙ ap (λ n. take n cells) count in
+    let counts : c.in_ok-cells.cells.now ≡ fs = got.2 ∙ ap (λ n. take n cells) count in
     let long : h * v ≤ length cells = omega (arith, got.1, c.cells.ensures) in
     let light : abs_sum fs ≤ F.limit = subst (λ xs. abs_sum xs ≤ F.limit) counts (omega (arith, c.absolute_sum.ensures, c.from.ensures, c.limit.ensures, c.if-absolute_sum-from.false)) in
     let suit = suit_granted q h v tt (sym c.in_ok-asked.ensures.answer) in
@@ -39,10 +40,10 @@ returns g c =
     let grid = c.in_ok-asked.ensures.grid in
     let degree : asked.degree ≡ q.degree h = asked.stated ∙ ap₂ (λ p k. p.degree k.rows) same grid in
     let room : suc (q.degree h) + v ≤ length tray = omega (arith, c.if-tray-degree.false, c.columns.ensures, degree) in
-    let enough = c.if-paper-lt9216.false in
+    let enough = c.if-paper-lt-ENOUGH_PAPER.false in
     let filled : c.fill_values.new.tray ≡ tray_filled F h v q fs tray =
     c.fill_values.ensures
-    ∙ ap₂ (λ p k. honest F k.rows k.columns p c.in_ok-counts.counts.now ++ (columns F k.rows k.columns c.in_ok-counts.counts.now (node F asked.degree) ++ drop (suc asked.degree + k.columns) tray)) same grid
+    ∙ ap₂ (λ p k. honest F k.rows k.columns p c.in_ok-cells.cells.now ++ (columns F k.rows k.columns c.in_ok-cells.cells.now (node F asked.degree) ++ drop (suc asked.degree + k.columns) tray)) same grid
     ∙ ap₂ (λ xs n. honest F h v q xs ++ (columns F h v xs (node F n) ++ drop (suc n + v) tray)) counts degree in
     let lines : asked.degree + 1 ≡ suc (q.degree h) = omega (arith, degree) in
     let values = ap₂ take lines filled ∙ take_honest F h v cells q tray paper fs in

@@ -12,11 +12,11 @@ loop-j-preserved g c =
     let q = g.Q.Question.meaning c.args.asked.now.question.now in
     let h = c.args.asked.now.grid.rows in
     let v = c.args.asked.now.grid.columns in
-    let fs = c.args.counts.now in
+    let fs = c.args.counts.now.cells.now in
     let j = c.loop-j.j in
     let inv = c.loop-j.invariant in
     let now-is : c.fill_columns.new.sums ≡ columns F h v fs (node F j) =
-    c.fill_columns.ensures ∙ ap₂ (λ k n. columns F k n fs c.node_at-point.result) c.rows.ensures inv.1 ∙ ap (columns F h v fs) c.node_at-point.ensures in
+    c.fill_columns.ensures ∙ ap₂ (λ k p. columns F k.rows k.columns fs p) c.requires.grid c.node_at-point.ensures in
     let size : length c.fill_columns.new.sums ≡ v = ap length now-is ∙ length-listed 0 v _ in
     let value : c.rule.result ≡ q.rule h v (node F j) (columns F h v fs (node F j)) = c.rule.ensures ∙ ap₂ (q.rule h v) c.node_at-point.ensures now-is in
     let old = c.split_at_mut-values.result.0.now in
@@ -30,7 +30,7 @@ returns g c =
     let q = g.Q.Question.meaning c.args.asked.now.question.now in
     let h = c.args.asked.now.grid.rows in
     let v = c.args.asked.now.grid.columns in
-    let fs = c.args.counts.now in
+    let fs = c.args.counts.now.cells.now in
     let d = c.args.asked.now.degree in
     let inv = c.loop-j.invariant in
     let old = c.split_at_mut-values.result.0.now in
