@@ -1,7 +1,6 @@
 -- What the ledger keeps: its counts are as many as the cells, and their absolute values come to the weight at most. Assumes nothing.
-use Rattle.std.proofs.Common.{IfOk, ◌≡◌, ℕ, zero, suc, ◌+◌, ◌*◌, ◌<◌, ◌≤◌, Bool, true, false, ltb, leb, List, [], ◌∷◌, ◌++◌, length, get_or, take, set, replicate, ℤ, pos, ◌+ℤ◌, nat_abs, Ok, Err, Result, refl, ap, ◌∙◌, subst, arith, length-set, ltb-true, leb-true}
+use Rattle.std.proofs.Common.{IfOk, ◌≡◌, ℕ, zero, suc, ◌+◌, ◌*◌, ◌<◌, ◌≤◌, Bool, true, false, ltb, leb, List, [], ◌∷◌, ◌++◌, length, get_or, set, replicate, ℤ, pos, ◌+ℤ◌, nat_abs, Ok, Err, Result, refl, ◌∙◌, subst, arith, length-set, ltb-true, leb-true}
 use lib.ListN.{length-replicate}
-use Rattle.std.proofs.lemmas.List.{take_more}
 use Rattle.std.proofs.lemmas.Int.{ints}
 use Rattle.board.specs.declared.game.Move.{Move}
 use Rattle.board.specs.declared.refusal.Refusal.{Refusal}
@@ -81,7 +80,3 @@ module _ (h v W : ℕ) where
 pub abs-append : (fs gs : List ℤ) → abs_sum (fs ++ gs) ≡ abs_sum fs + abs_sum gs
 abs-append [] gs = omega arith
 abs-append (f ∷ fs) gs = omega (arith, abs-append fs gs)
-
--- one count more
-pub abs_more : (fs : List ℤ) (i : ℕ) → i < length fs → abs_sum (take (i + 1) fs) ≡ abs_sum (take i fs) + nat_abs (get_or fs i (pos 0))
-abs_more fs i h = ap abs_sum (take_more fs i (pos 0) h) ∙ omega (arith, abs-append (take i fs) (get_or fs i (pos 0) ∷ []))

@@ -1,5 +1,5 @@
 -- What an answer comes to, step by step. Assumes nothing.
-use Rattle.std.proofs.Common.{◌≡◌, ℕ, suc, ◌+◌, ◌*◌, ◌≤◌, Bool, true, false, cond, ◌&&◌, ltb, leb, List, ◌++◌, length, take, drop, ℤ, Ok, Err, Result, ap, subst, ap₂, arith, length-take, le-ltb, le-leb}
+use Rattle.std.proofs.Common.{◌≡◌, ℕ, suc, ◌+◌, ◌*◌, ◌≤◌, Bool, true, false, cond, ◌&&◌, ltb, leb, List, ◌++◌, length, take, drop, ℤ, Ok, Err, Result, ap, subst, ap₂, arith, le-ltb, le-leb}
 use lib.Seq.{take-append_seam}
 use Rattle.board.specs.declared.refusal.Refusal.{Refusal}
 use Rattle.board.specs.declared.refusal.Refusal.TheVariants.{BankShort, CountOutside, QuestionUnfit, TrayShort, PaperShort}
@@ -8,7 +8,7 @@ use Rattle.board.proofs.Ledgers.{abs_at}
 use Rattle.field.specs.Field.{FieldModel, LawfulField}
 use Rattle.field.proofs.Consequences.{limit_small}
 use Rattle.polynomial.proofs.Sums.{length-listed}
-use Rattle.question.specs.Question.{QuestionModel, Within}
+use Rattle.question.specs.Question.{QuestionModel}
 use Rattle.protocol.specs.Asking.{suits, terms_of, honest}
 use Rattle.writer.specs.Papers.{write_answer, paper_after}
 use Rattle.writer.specs.Texts.{text}
@@ -62,6 +62,3 @@ module _ {K : Type 0} (F : FieldModel K) (h v : ℕ) (bank : List ℤ) (q : Ques
 -- counts that come to the limit at most have images
 pub light_ranged : {K : Type 0} {F : FieldModel K} (L : LawfulField F) (gs : List ℤ) → abs_sum gs ≤ F.limit → Ranged gs
 light_ranged L gs light i = omega (arith, abs_at gs i, limit_small L)
-
-pub counts_within : {K : Type 0} (F : FieldModel K) (h v : ℕ) (bank : List ℤ) → h * v ≤ length bank → abs_sum (take (h * v) bank) ≤ F.limit → Within F h v (take (h * v) bank)
-counts_within F h v bank long light = record { size = omega (arith, length-take (h * v) bank); light = light }

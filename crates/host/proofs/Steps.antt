@@ -1,5 +1,5 @@
 -- Steps of the host's loops. Assumes nothing but the laws of the field.
-use Rattle.std.proofs.Common.{◌≡◌, ℕ, zero, suc, ◌+◌, ◌-◌, ◌*◌, ◌<◌, ◌≤◌, List, [], ◌∷◌, ◌++◌, length, get_or, take, drop, set, replicate, ℤ, pos, negsuc, nat_abs, sym, refl, ap, ◌∙◌, ap₂, mul-le-mul_right, arith, length-drop, length-take, get_or-drop, get_or-take, w32, SFits}
+use Rattle.std.proofs.Common.{◌≡◌, ℕ, zero, suc, ◌+◌, ◌-◌, ◌*◌, ◌<◌, ◌≤◌, List, [], ◌∷◌, ◌++◌, length, get_or, take, drop, set, replicate, ℤ, pos, negsuc, nat_abs, sym, refl, ap, ◌∙◌, ap₂, arith, get_or-drop, get_or-take, w32, SFits}
 use Rattle.field.specs.Field.{FieldModel}
 use Rattle.polynomial.specs.Interpolation.{chi}
 use Rattle.polynomial.specs.Lists.{listed}
@@ -7,7 +7,7 @@ use Rattle.polynomial.specs.Sums.{sum_from}
 use Rattle.polynomial.specs.Columns.{count_at}
 use Rattle.polynomial.proofs.Sums.{listed_cong}
 use Rattle.board.specs.Banks.{filled}
-use Rattle.host.specs.Rows.{added_row, Ranged}
+use Rattle.host.specs.Rows.{added_row}
 
 module _ {K : Type 0} (F : FieldModel K) (b : K) where
   -- the first n of them
@@ -75,20 +75,6 @@ columns_more F h v fs X x row b l e =
 pub row_at : (fs : List ℤ) (a v y : ℕ) → y < v → get_or (take v (drop a fs)) y (pos 0) ≡ get_or fs (a + y) (pos 0)
 row_at fs a v y h = get_or-take v (drop a fs) y (pos 0) h ∙ get_or-drop a fs y (pos 0)
 
-pub ranged_row : (fs : List ℤ) (a v : ℕ) → Ranged fs → Ranged (take v (drop a fs))
-ranged_row fs a v r i = go v (drop a fs) i (λ k. ranged_drop a fs r k)
-  where
-    go : (v : ℕ) (gs : List ℤ) (i : ℕ) → Ranged gs → nat_abs (get_or (take v gs) i (pos 0)) ≤ 2147483647
-    go zero gs i r = omega arith
-    go (suc v) [] i r = omega arith
-    go (suc v) (g ∷ gs) zero r = r 0
-    go (suc v) (g ∷ gs) (suc i) r = go v gs i (λ k. r (suc k))
-
-    ranged_drop : (a : ℕ) (fs : List ℤ) → Ranged fs → Ranged (drop a fs)
-    ranged_drop zero fs r k = r k
-    ranged_drop (suc a) [] r k = omega arith
-    ranged_drop (suc a) (f ∷ fs) r k = ranged_drop a fs (λ i. r (suc i)) k
-
 pub ranged_fits : (z : ℤ) → nat_abs z ≤ 2147483647 → SFits w32 z
 ranged_fits (pos n) h = record { sfits = omega arith }
 ranged_fits (negsuc n) h = record { sfits = omega arith }
@@ -97,12 +83,6 @@ ranged_fits (negsuc n) h = record { sfits = omega arith }
 pub filled_whole : {A : Type 0} (z : A) (cells : List A) → filled (length cells) z cells ≡ replicate (length cells) z
 filled_whole z [] = refl
 filled_whole z (c ∷ cells) = ap (◌∷◌ z) (filled_whole z cells)
-
-pub row_end : (h v x n : ℕ) → x < h → h * v ≤ n → x * v + v ≤ n
-row_end h v x n b l = omega (arith, mul-le-mul_right {m = suc x} {n = h} v b)
-
-pub row_length : (v a n : ℕ) (fs : List ℤ) → n ≡ v → a + v ≤ length fs → v ≤ length (take n (drop a fs))
-row_length v a n fs e l = omega (arith, length-take n (drop a fs), length-drop a fs)
 
 module _ {A : Type 0} (G : ℕ → A) where
   listed_next : (i j : ℕ) (old : List A) (a : A) → j < length old → a ≡ G (i + j) → set (listed i j G ++ drop j old) j a ≡ listed i (suc j) G ++ drop (suc j) old

@@ -7,7 +7,8 @@ ghost use Rattle.play.specs.States.{host_state, verifier_state};
 use board::{Bank, Move};
 use field::Field;
 
-// Tells a host moves, refused ones too. The loop for a box is a twin: a trait for both ends, with two impls, would be longer than both loops.
+// Tells a host moves, refused ones too. The loop for a box is a twin. One loop for both would need a trait with a type of cells, the state of an end
+// and what a note makes of it, and an impl for each end: no plainer than two loops of one line.
 pub(crate) fn tell_host<F: Field>(
     host: &mut host::Listening<F>,
     bank: &mut Bank<'_, i32>,

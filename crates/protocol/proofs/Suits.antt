@@ -35,10 +35,3 @@ module _ {K : Type 0} (q : QuestionModel K) (h v : ℕ) where
       go : (b : Bool) → suits q h v ≡ b → cond {A = Result (Unit {0}) Refusal} b (Ok tt) (Err QuestionUnfit) ≡ Ok u → suits q h v ≡ true
       go true p e = p
       go false p e = absurd (let z : ◌≡◌ {A = ℕ} 0 1 = cc in omega arith)
-
-  pub suit_refused : (r : Refusal) → suit_answer q h v ≡ Err r → (suits q h v ≡ false) × (r ≡ QuestionUnfit)
-  suit_refused r e = go (suits q h v) refl e
-    where
-      go : (b : Bool) → suits q h v ≡ b → cond {A = Result (Unit {0}) Refusal} b (Ok tt) (Err QuestionUnfit) ≡ Err r → (suits q h v ≡ false) × (r ≡ QuestionUnfit)
-      go true p e = absurd (let z : ◌≡◌ {A = ℕ} 0 1 = cc in omega arith)
-      go false p e = (p, cc)

@@ -1,4 +1,4 @@
-// Whether a question fits a grid.
+// Whether a question fits a grid. No `bool`: further outcomes may come, and a match names them.
 #[derive(Clone, Copy, PartialEq, Eq, Debug)]
 pub enum Fit {
     Fits,

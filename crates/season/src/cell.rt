@@ -22,6 +22,7 @@ impl<F: Field> Question<F> for Cell {
         2 * (grid.rows() - 1)
     }
 
+    // The limits of a count stand in three questions and not in the trait, whose meaning leaves them open.
     fn least(&self) -> i64 {
         -i64::from(F::limit())
     }

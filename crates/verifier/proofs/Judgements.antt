@@ -1,5 +1,5 @@
 -- What a judgement comes to, step by step. Assumes nothing.
-use Rattle.std.proofs.Common.{◌≡◌, ℕ, suc, ◌<◌, ◌≤◌, Bool, true, false, cond, ltb, List, ◌++◌, length, take, drop, replicate, ℤ, is_err, Ok, Err, Result, sym, refl, ap, ◌∙◌, subst, ap₂, arith, length-append, length-drop, ltb-true, le-ltb, lt-ltb}
+use Rattle.std.proofs.Common.{◌≡◌, ℕ, suc, ◌<◌, ◌≤◌, Bool, true, false, cond, ltb, List, ◌++◌, length, take, drop, replicate, ℤ, is_err, Ok, Err, Result, sym, refl, ap, ◌∙◌, subst, ap₂, arith, length-append, length-drop, ltb-true, le-ltb}
 use lib.Seq.{take-append_seam, drop-append_seam}
 use Rattle.board.specs.declared.refusal.Refusal.{Refusal}
 use Rattle.board.specs.declared.refusal.Refusal.TheVariants.{BankShort, QuestionUnfit, TrayShort}
@@ -19,16 +19,10 @@ module _ {K : Type 0} (F : FieldModel K) (h v : ℕ) (r : K) (bank : List K) (q 
   settled_early : (e : Refusal) → judge_ready F h v r bank q tray ≡ Err e → judged F h v r bank q sheet tray ≡ record { answer = Err e; tray = tray }
   settled_early e p = ap (λ a. settled_by F h v r a (take v bank) q (read_sheet F q h v sheet) tray) p
 
-  pub bank_short : length bank < v → judged F h v r bank q sheet tray ≡ record { answer = Err BankShort; tray = tray }
-  bank_short s = settled_early BankShort (ap (λ b. cond b (Err BankShort) (cond (suits q h v) (cond (ltb (q.degree h) (length tray)) (Ok tt) (Err TrayShort)) (Err QuestionUnfit))) (lt-ltb (length bank) v s))
-
   module _ (long : v ≤ length bank) where
     ready : (b : Bool) → suits q h v ≡ b → judge_ready F h v r bank q tray ≡ cond b (cond (ltb (q.degree h) (length tray)) (Ok tt) (Err TrayShort)) (Err QuestionUnfit)
     ready b p =
         ap₂ (λ a s. cond a (Err BankShort) (cond s (cond (ltb (q.degree h) (length tray)) (Ok tt) (Err TrayShort)) (Err QuestionUnfit))) (le-ltb (length bank) v long) p
-
-    pub unfit : suits q h v ≡ false → judged F h v r bank q sheet tray ≡ record { answer = Err QuestionUnfit; tray = tray }
-    unfit p = settled_early QuestionUnfit (ready false p)
 
     -- a reading that is refused
     pub refused : suits q h v ≡ true → (e : Refusal) → read_answer F (terms_of q h v) sheet tray ≡ Err e → judged F h v r bank q sheet tray ≡ record { answer = Err e; tray = tray_after F (terms_of q h v) sheet tray }

@@ -1,6 +1,4 @@
-use Rattle.std.proofs.Common.{◌-◌, take, ap, ◌∙◌, take_all, rules}
-use native.Mathlib.Nat.{sub-zero}
-use Rattle.polynomial.specs.Sums.{list_sum}
+use Rattle.std.proofs.Common.{◌-◌, take, rules}
 use Rattle.polynomial.proofs.Sums.{list_sum_more}
 use Rattle.verifier.proofs.weighing.sum_of_first.Goals as goal
 
