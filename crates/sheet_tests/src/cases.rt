@@ -73,7 +73,7 @@ fn read_with_spaces_and_zeros(rt: HostRuntime) {
     );
 }
 
-// The sheet with one thing wrong, and what is told of it.
+// Damaged sheets, and what is told of each.
 const DAMAGED: [(&[u8], Fault, usize, usize); 22] = [
     // upper case
     (b"(Sheet 65537 1 (grid 2 8))\n", Fault::Malformed, 1, 1),
