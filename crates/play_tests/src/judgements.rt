@@ -46,8 +46,9 @@ fn check_judged<F: Field>(
     rows: u64,
     sums: &mut [F],
     tray: &mut [F],
-    (point, sheet, found): Case<F>,
+    case: &Case<F>,
 ) -> Result<(), Fail> {
+    let &(point, sheet, found) = case;
     let mut sums = Bank::new(sums);
     sums.fill(F::zero());
     Bank::new(tray).fill(F::zero());
@@ -69,8 +70,8 @@ fn check_cases<F: Field>(
     tray: &mut [F],
     cases: &[Case<F>],
 ) -> Result<(), Fail> {
-    for &(point, sheet, found) in cases {
-        check_judged(rt, rows, sums, tray, (point, sheet, found))?;
+    for case in cases {
+        check_judged(rt, rows, sums, tray, case)?;
     }
     Ok(())
 }
