@@ -17,9 +17,7 @@ const STEPS: [Step; 3] = [
 fn at_the_host(rt: HostRuntime) -> Result<(), Fail> {
     let mut counts = [7; 17];
     let mut bank = Bank::new(&mut counts);
-    let Ok(mut end) = host::Listening::<Mod65537>::open(2, 8, &mut bank) else {
-        return Err(Fail::new("no host"));
-    };
+    let mut end = host::Listening::<Mod65537>::open(2, 8, &mut bank)?;
     check_notes(&rt, &mut end, &mut bank, &STEPS);
     check_book(&rt, end.seal().book(), 6, 3);
     assert_eq!(rt;
@@ -38,9 +36,7 @@ fn check_box<F: Field>(
     second: (u32, u32),
 ) -> Result<(), Fail> {
     let mut bank = Bank::new(memory);
-    let Ok(mut end) = verifier::Listening::open(2, 8, point, &mut bank) else {
-        return Err(Fail::new("no box"));
-    };
+    let mut end = verifier::Listening::open(2, 8, point, &mut bank)?;
     check_notes(rt, &mut end, &mut bank, &STEPS);
     check_book(rt, end.seal().book(), 6, 3);
     for (y, cell) in bank.cells().iter().enumerate() {

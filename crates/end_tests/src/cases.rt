@@ -58,9 +58,8 @@ impl<F: Field> End for verifier::Listening<F> {
     }
 }
 
-// A move by its cell and amount, its answer with a refusal by its number, and the weight and the number of accepted moves
-// after it.
-pub(crate) type Step = (u64, i64, Result<(), u8>, u32, u32);
+// A move by its cell and amount, its answer, and the weight and the number of accepted moves after it.
+pub(crate) type Step = (u64, i64, Result<(), Refusal>, u32, u32);
 
 // The book of a board of 2 rows and 8 columns.
 pub(crate) fn check_book(rt: &impl Abort, book: &Book, weight: u32, number: u32) {
@@ -76,8 +75,7 @@ pub(crate) fn check_notes<E: End>(
     steps: &[Step],
 ) {
     for (cell, amount, answer, weight, number) in steps.iter().copied() {
-        let noted = end.note(bank, Move { cell, amount });
-        assert_eq!(rt; noted.map_err(|refusal| refusal.number()), answer);
+        assert_eq!(rt; end.note(bank, Move { cell, amount }), answer);
         check_book(rt, end.book(), weight, number);
     }
 }

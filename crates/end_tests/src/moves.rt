@@ -1,6 +1,6 @@
 // Moves at both ends over Mod65537, whose limit of weights is 256, on boards of 2 rows and 8 columns.
 use crate::cases::*;
-use board::Bank;
+use board::{Bank, Refusal};
 use field::Field;
 use prime::Mod65537;
 use std::process::Abort;
@@ -18,9 +18,7 @@ fn check_moves<E: End>(
     changed: (usize, i64),
 ) -> Result<(), Fail> {
     let mut bank = Bank::new(memory);
-    let Ok(mut end) = E::open(2, 8, &mut bank) else {
-        return Err(Fail::new("no end"));
-    };
+    let mut end = E::open(2, 8, &mut bank)?;
     check_notes(rt, &mut end, &mut bank, steps);
     let (place, held) = changed;
     for (i, cell) in memory.iter().enumerate() {
@@ -45,45 +43,46 @@ fn limits(rt: HostRuntime) -> Result<(), Fail> {
     // One move fills the weight. Afterwards every other move is refused, with the first refusal that applies.
     let steps = [
         (0, 256, Ok(()), 256, 1),
-        (0, 1, Err(3), 256, 1),
-        (15, -1, Err(3), 256, 1),
-        (0, 0, Err(2), 256, 1),
-        (0, 257, Err(2), 256, 1),
-        (0, -257, Err(2), 256, 1),
-        (0, i64::MIN, Err(2), 256, 1),
-        (0, i64::MAX, Err(2), 256, 1),
-        (16, 1, Err(1), 256, 1),
-        (u64::MAX, 1, Err(1), 256, 1),
-        (16, 0, Err(1), 256, 1),
-        (u64::MAX, i64::MIN, Err(1), 256, 1),
+        (0, 1, Err(Refusal::TooHeavy), 256, 1),
+        (15, -1, Err(Refusal::TooHeavy), 256, 1),
+        (0, 0, Err(Refusal::AmountOutside), 256, 1),
+        (0, 257, Err(Refusal::AmountOutside), 256, 1),
+        (0, -257, Err(Refusal::AmountOutside), 256, 1),
+        (0, i64::MIN, Err(Refusal::AmountOutside), 256, 1),
+        (0, i64::MAX, Err(Refusal::AmountOutside), 256, 1),
+        (16, 1, Err(Refusal::CellOutside), 256, 1),
+        (u64::MAX, 1, Err(Refusal::CellOutside), 256, 1),
+        (16, 0, Err(Refusal::CellOutside), 256, 1),
+        (u64::MAX, i64::MIN, Err(Refusal::CellOutside), 256, 1),
     ];
     check_both(&rt, &steps, (0, 256), (0, 64513))?;
     // The last cell.
     let steps = [
         (15, -256, Ok(()), 256, 1),
-        (15, 1, Err(3), 256, 1),
-        (16, -256, Err(1), 256, 1),
+        (15, 1, Err(Refusal::TooHeavy), 256, 1),
+        (16, -256, Err(Refusal::CellOutside), 256, 1),
     ];
     check_both(&rt, &steps, (15, -256), (7, 64257))?;
     // Amounts that cancel still weigh.
     let steps = [
         (3, 100, Ok(()), 100, 1),
         (3, -100, Ok(()), 200, 2),
-        (3, 57, Err(3), 200, 2),
-        (3, -57, Err(3), 200, 2),
-        (16, 56, Err(1), 200, 2),
+        (3, 57, Err(Refusal::TooHeavy), 200, 2),
+        (3, -57, Err(Refusal::TooHeavy), 200, 2),
+        (16, 56, Err(Refusal::CellOutside), 200, 2),
         (3, 56, Ok(()), 256, 3),
-        (3, -1, Err(3), 256, 3),
+        (3, -1, Err(Refusal::TooHeavy), 256, 3),
     ];
     check_both(&rt, &steps, (3, 56), (3, 65313))
 }
 
 // A bank with a cell too few is told of before any fault of the move.
 fn check_short<E: End>(rt: &impl Abort, memory: &mut [E::Cell]) -> Result<(), Fail> {
-    let Ok(mut end) = E::open(2, 8, &mut Bank::new(memory)) else {
-        return Err(Fail::new("no end"));
-    };
-    let steps = [(0, 1, Err(12), 0, 0), (16, 0, Err(12), 0, 0)];
+    let mut end = E::open(2, 8, &mut Bank::new(memory))?;
+    let steps = [
+        (0, 1, Err(Refusal::BankShort), 0, 0),
+        (16, 0, Err(Refusal::BankShort), 0, 0),
+    ];
     assert!(rt; !memory.is_empty());
     let last = memory.len() - 1;
     check_notes(rt, &mut end, &mut Bank::new(&mut memory[..last]), &steps);
@@ -100,9 +99,7 @@ fn short_banks(rt: HostRuntime) -> Result<(), Fail> {
 #[test]
 fn counts_outside(rt: HostRuntime) -> Result<(), Fail> {
     let mut counts = [0; 16];
-    let Ok(mut end) = Host::open(2, 8, &mut Bank::new(&mut counts)) else {
-        return Err(Fail::new("no host"));
-    };
+    let mut end = Host::open(2, 8, &mut Bank::new(&mut counts))?;
     let mut counts = [
         257,
         -257,
@@ -122,19 +119,19 @@ fn counts_outside(rt: HostRuntime) -> Result<(), Fail> {
         0,
     ];
     let steps = [
-        (0, 1, Err(13), 0, 0),
-        (0, -1, Err(13), 0, 0),
-        (1, 1, Err(13), 0, 0),
-        (1, -1, Err(13), 0, 0),
-        (2, 1, Err(13), 0, 0),
+        (0, 1, Err(Refusal::CountOutside), 0, 0),
+        (0, -1, Err(Refusal::CountOutside), 0, 0),
+        (1, 1, Err(Refusal::CountOutside), 0, 0),
+        (1, -1, Err(Refusal::CountOutside), 0, 0),
+        (2, 1, Err(Refusal::CountOutside), 0, 0),
         (3, 1, Ok(()), 1, 1),
-        (3, -1, Err(13), 1, 1),
+        (3, -1, Err(Refusal::CountOutside), 1, 1),
         (4, -1, Ok(()), 2, 2),
-        (4, 1, Err(13), 2, 2),
+        (4, 1, Err(Refusal::CountOutside), 2, 2),
         (5, 254, Ok(()), 256, 3),
-        (0, 1, Err(3), 256, 3),
-        (0, 0, Err(2), 256, 3),
-        (16, 0, Err(1), 256, 3),
+        (0, 1, Err(Refusal::TooHeavy), 256, 3),
+        (0, 0, Err(Refusal::AmountOutside), 256, 3),
+        (16, 0, Err(Refusal::CellOutside), 256, 3),
     ];
     check_notes(&rt, &mut end, &mut Bank::new(&mut counts), &steps);
     assert_eq!(rt;

@@ -49,7 +49,7 @@ fn check_case<F: Field>(rt: &impl Abort, case: Case) -> Result<(), Fail> {
     Ok(())
 }
 
-pub(crate) fn check_cases<F: Field>(rt: &impl Abort, cases: &[Case]) -> Result<(), Fail> {
+fn check_cases<F: Field>(rt: &impl Abort, cases: &[Case]) -> Result<(), Fail> {
     for case in cases {
         check_case::<F>(rt, *case)?;
     }
@@ -58,21 +58,30 @@ pub(crate) fn check_cases<F: Field>(rt: &impl Abort, cases: &[Case]) -> Result<(
 }
 
 // Each case is a whole number and the low part of its image; the high part is 0.
-pub(crate) fn check_images<F: Field>(rt: &impl Abort, cases: &[(i32, u32)]) {
+fn check_images<F: Field>(rt: &impl Abort, cases: &[(i32, u32)]) {
     for &(n, low) in cases {
         assert!(rt; n >= -2147483647);
         assert_eq!(rt; parts(F::image(n)), (low, 0));
     }
 }
 
-// The three constants; zero, one, and the inverses of 1 to 252.
-pub(crate) fn check_numbers<F: Field>(rt: &impl Abort, p: u32, e: u32, limit: u32) {
-    assert_eq!(rt;
-        (F::characteristic(), F::degree(), F::limit()),
-        (p, e, limit)
-    );
+// The characteristic, the degree and the limit; zero, one, and the inverses of 1 to 252.
+fn check_numbers<F: Field>(rt: &impl Abort, numbers: (u32, u32, u32)) {
+    assert_eq!(rt; (F::characteristic(), F::degree(), F::limit()), numbers);
     assert_eq!(rt; (parts(F::zero()), parts(F::one())), ((0, 0), (1, 0)));
     for n in 1..=252 {
         assert!(rt; F::image(n as i32).product(F::inverse_of(n)) == F::one());
     }
+}
+
+pub(crate) fn check_field<F: Field>(
+    rt: &impl Abort,
+    numbers: (u32, u32, u32),
+    cases: &[Case],
+    images: &[(i32, u32)],
+) -> Result<(), Fail> {
+    check_numbers::<F>(rt, numbers);
+    check_cases::<F>(rt, cases)?;
+    check_images::<F>(rt, images);
+    Ok(())
 }

@@ -74,18 +74,17 @@ const CASES_65537: [Case; 8] = [
 
 #[test]
 fn over_65537(rt: HostRuntime) -> Result<(), Fail> {
-    check_numbers::<Extension<Mod65537>>(&rt, 65537, 2, 256);
-    check_cases::<Extension<Mod65537>>(&rt, &CASES_65537)?;
-    check_images::<Extension<Mod65537>>(
+    check_field::<Extension<Mod65537>>(
         &rt,
+        (65537, 2, 256),
+        &CASES_65537,
         &[
             (0, 0),
             (-1, 65536),
             (2147483647, 32768),
             (-2147483647, 32769),
         ],
-    );
-    Ok(())
+    )
 }
 
 // t times t is 2,147,483,646, which is −1.
@@ -158,11 +157,10 @@ const CASES_2147483647: [Case; 8] = [
 
 #[test]
 fn over_2147483647(rt: HostRuntime) -> Result<(), Fail> {
-    check_numbers::<Extension<Mersenne31>>(&rt, 2147483647, 2, 46340);
-    check_cases::<Extension<Mersenne31>>(&rt, &CASES_2147483647)?;
-    check_images::<Extension<Mersenne31>>(
+    check_field::<Extension<Mersenne31>>(
         &rt,
+        (2147483647, 2, 46340),
+        &CASES_2147483647,
         &[(0, 0), (-1, 2147483646), (2147483647, 0), (-2147483647, 0)],
-    );
-    Ok(())
+    )
 }

@@ -73,10 +73,10 @@ const CASES_65537: [Case; 8] = [
 
 #[test]
 fn modulo_65537(rt: HostRuntime) -> Result<(), Fail> {
-    check_numbers::<Mod65537>(&rt, 65537, 1, 256);
-    check_cases::<Mod65537>(&rt, &CASES_65537)?;
-    check_images::<Mod65537>(
+    check_field::<Mod65537>(
         &rt,
+        (65537, 1, 256),
+        &CASES_65537,
         &[
             (0, 0),
             (1, 1),
@@ -89,7 +89,7 @@ fn modulo_65537(rt: HostRuntime) -> Result<(), Fail> {
             (2147483647, 32768),
             (-2147483647, 32769),
         ],
-    );
+    )?;
     assert_eq!(rt; parts(Mod65537::non_square()), (3, 0));
     Ok(())
 }
@@ -163,10 +163,10 @@ const CASES_2147483647: [Case; 8] = [
 
 #[test]
 fn modulo_2147483647(rt: HostRuntime) -> Result<(), Fail> {
-    check_numbers::<Mersenne31>(&rt, 2147483647, 1, 46340);
-    check_cases::<Mersenne31>(&rt, &CASES_2147483647)?;
-    check_images::<Mersenne31>(
+    check_field::<Mersenne31>(
         &rt,
+        (2147483647, 1, 46340),
+        &CASES_2147483647,
         &[
             (0, 0),
             (1, 1),
@@ -177,7 +177,7 @@ fn modulo_2147483647(rt: HostRuntime) -> Result<(), Fail> {
             (2147483647, 0),
             (-2147483647, 0),
         ],
-    );
+    )?;
     assert_eq!(rt; parts(Mersenne31::non_square()), (2147483646, 0));
     Ok(())
 }

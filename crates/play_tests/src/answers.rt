@@ -1,6 +1,6 @@
 // This season's questions on a worked board, answered by a host.
 use crate::moves::MOVES;
-use board::Bank;
+use board::{Bank, Refusal};
 use extension::Extension;
 use field::Field;
 use prime::Mod65537;
@@ -9,29 +9,22 @@ use season::{Cell, Goods, Range, Season, Squares};
 use std::process::Abort;
 use std::test::Fail;
 
-// A host told the moves claims this, or refuses with this number, with a tray and a paper of these lengths.
+// A host told the moves claims this, or refuses so, with a tray and a paper of these lengths.
 fn check_room(
     rt: &impl Abort,
     question: &impl Question<Mod65537>,
     tray: &mut [Mod65537],
     paper: &mut [u8],
-    claim: Result<i64, u8>,
+    claim: Result<i64, Refusal>,
 ) -> Result<(), Fail> {
     let mut counts = [9i32; 17];
     let mut counts = Bank::new(&mut counts);
-    let Ok(mut host) = host::Listening::<Mod65537>::open(2, 8, &mut counts) else {
-        return Err(Fail::new("the host did not open"));
-    };
+    let mut host = host::Listening::<Mod65537>::open(2, 8, &mut counts)?;
     for m in MOVES {
         let _ = host.note(&mut counts, m);
     }
     let found = host.seal().answer(&counts, question, tray, paper);
-    assert_eq!(rt;
-        found
-            .map(|(claim, _)| claim)
-            .map_err(|refusal| refusal.number()),
-        claim
-    );
+    assert_eq!(rt; found.map(|(claim, _)| claim), claim);
     Ok(())
 }
 
@@ -39,7 +32,7 @@ fn check_room(
 fn check_claim(
     rt: &impl Abort,
     question: &impl Question<Mod65537>,
-    claim: Result<i64, u8>,
+    claim: Result<i64, Refusal>,
 ) -> Result<(), Fail> {
     check_room(
         rt,
@@ -55,14 +48,22 @@ fn true_counts(rt: HostRuntime) -> Result<(), Fail> {
     check_claim(&rt, &Squares, Ok(14))?;
     check_claim(&rt, &Range { first: 8, last: 9 }, Ok(-1))?;
     check_claim(&rt, &Range { first: 0, last: 15 }, Ok(2))?;
-    check_claim(&rt, &Range { first: 9, last: 8 }, Err(20))?;
-    check_claim(&rt, &Range { first: 9, last: 16 }, Err(20))?;
+    check_claim(
+        &rt,
+        &Range { first: 9, last: 8 },
+        Err(Refusal::QuestionUnfit),
+    )?;
+    check_claim(
+        &rt,
+        &Range { first: 9, last: 16 },
+        Err(Refusal::QuestionUnfit),
+    )?;
     check_claim(&rt, &Cell { index: 9 }, Ok(-2))?;
-    check_claim(&rt, &Cell { index: 16 }, Err(20))?;
+    check_claim(&rt, &Cell { index: 16 }, Err(Refusal::QuestionUnfit))?;
     check_claim(&rt, &Goods { kind: 0 }, Ok(4))?;
     check_claim(&rt, &Goods { kind: 1 }, Ok(-2))?;
     check_claim(&rt, &Goods { kind: 7 }, Ok(0))?;
-    check_claim(&rt, &Goods { kind: 8 }, Err(20))?;
+    check_claim(&rt, &Goods { kind: 8 }, Err(Refusal::QuestionUnfit))?;
     check_claim(&rt, &Season::Cell(Cell { index: 0 }), Ok(3))
 }
 
@@ -70,8 +71,20 @@ fn true_counts(rt: HostRuntime) -> Result<(), Fail> {
 fn buffers_just_long_enough(rt: HostRuntime) -> Result<(), Fail> {
     let zero = Mod65537::zero();
     check_room(&rt, &Squares, &mut [zero; 11], &mut [0; 9216], Ok(14))?;
-    check_room(&rt, &Squares, &mut [zero; 10], &mut [0; 9216], Err(21))?;
-    check_room(&rt, &Squares, &mut [zero; 11], &mut [0; 9215], Err(22))
+    check_room(
+        &rt,
+        &Squares,
+        &mut [zero; 10],
+        &mut [0; 9216],
+        Err(Refusal::TrayShort),
+    )?;
+    check_room(
+        &rt,
+        &Squares,
+        &mut [zero; 11],
+        &mut [0; 9215],
+        Err(Refusal::PaperShort),
+    )
 }
 
 // In the extension of 65,537 at t, the columns of the board are 3 − 2 t and −2 t.
@@ -80,9 +93,7 @@ fn squares_rule_at_t(rt: HostRuntime) -> Result<(), Fail> {
     let t: Extension<Mod65537> = Field::of_parts(0, 1);
     let mut sums = [Field::zero(); 8];
     let mut sums = Bank::new(&mut sums);
-    let Ok(mut verifier) = verifier::Listening::open(2, 8, t, &mut sums) else {
-        return Err(Fail::new("the box did not open"));
-    };
+    let mut verifier = verifier::Listening::open(2, 8, t, &mut sums)?;
     for m in MOVES {
         let _ = verifier.note(&mut sums, m);
     }

@@ -1,6 +1,6 @@
 // Sheets for the squares on a worked board, whose true count is 14, judged at several points.
 use crate::moves::MOVES;
-use board::Bank;
+use board::{Bank, Fault, Refusal};
 use extension::Extension;
 use field::Field;
 use prime::{Mersenne31, Mod65537};
@@ -37,28 +37,41 @@ const ONE_ROW_TRUE: &[u8] = b"(sheet 65537 1 (grid 1 8))\n(claim (4 0 0) 9)\n(at
 const ONE_ROW_FALSE: &[u8] =
     b"(sheet 65537 1 (grid 1 8))\n(claim (4 0 0) 8)\n(at 0 (8 0))\n(end)\n";
 
-// A box at a point, told the moves on the first rows, judges a sheet twice, and finds the same: the claim, or the refusal's
-// number.
+// A box's point, a sheet, and what the box finds: the claim or a refusal.
+type Case<F> = (F, &'static [u8], Result<i64, Refusal>);
+
+// A new box with its memory all zero, told the moves on the first rows, judges the sheet twice and finds the same.
 fn check_judged<F: Field>(
     rt: &impl Abort,
     rows: u64,
-    point: F,
-    sheet: &[u8],
     sums: &mut [F],
     tray: &mut [F],
-    found: Result<i64, u8>,
+    case: &Case<F>,
 ) -> Result<(), Fail> {
+    let &(point, sheet, found) = case;
     let mut sums = Bank::new(sums);
-    let Ok(mut verifier) = verifier::Listening::open(rows, 8, point, &mut sums) else {
-        return Err(Fail::new("the box did not open"));
-    };
+    sums.fill(F::zero());
+    Bank::new(tray).fill(F::zero());
+    let mut verifier = verifier::Listening::open(rows, 8, point, &mut sums)?;
     for m in MOVES {
         let _ = verifier.note(&mut sums, m);
     }
     let verifier = verifier.seal();
     for _ in 0..2 {
-        let judged = verifier.judge(&sums, &Squares, sheet, tray);
-        assert_eq!(rt; judged.map_err(|refusal| refusal.number()), found);
+        assert_eq!(rt; verifier.judge(&sums, &Squares, sheet, tray), found);
+    }
+    Ok(())
+}
+
+fn check_cases<F: Field>(
+    rt: &impl Abort,
+    rows: u64,
+    sums: &mut [F],
+    tray: &mut [F],
+    cases: &[Case<F>],
+) -> Result<(), Fail> {
+    for case in cases {
+        check_judged(rt, rows, sums, tray, case)?;
     }
     Ok(())
 }
@@ -66,72 +79,94 @@ fn check_judged<F: Field>(
 // With a bank one cell longer than needed and a tray just long enough.
 #[test]
 fn worked_sheets_modulo_65537(rt: HostRuntime) -> Result<(), Fail> {
-    let zero = Mod65537::zero();
-    let cases = [
-        (0u16, TRUE_SHEET, Ok(14)),
-        (5, TRUE_SHEET, Ok(14)),
-        (300, TRUE_SHEET, Ok(14)),
-        (0, FALSE_SHEET, Ok(13)),
-        (2, FALSE_SHEET, Ok(13)),
-        (1, FALSE_SHEET, Err(51)),
-        (5, FALSE_SHEET, Err(51)),
-        (300, FALSE_SHEET, Err(51)),
-        (0, WRONG_SUM, Err(50)),
-        (5, LARGE_CLAIM, Err(43)),
-    ];
-    for (point, sheet, found) in cases {
-        let point = Mod65537::image(i32::from(point));
-        check_judged(&rt, 2, point, sheet, &mut [zero; 9], &mut [zero; 3], found)?;
-    }
-    Ok(())
+    let large_claim = Refusal::Sheet {
+        fault: Fault::Claim,
+        line: 2,
+        place: 42,
+    };
+    check_cases(
+        &rt,
+        2,
+        &mut [Mod65537::zero(); 9],
+        &mut [Mod65537::zero(); 3],
+        &[
+            (Mod65537::image(0), TRUE_SHEET, Ok(14)),
+            (Mod65537::image(5), TRUE_SHEET, Ok(14)),
+            (Mod65537::image(300), TRUE_SHEET, Ok(14)),
+            (Mod65537::image(0), FALSE_SHEET, Ok(13)),
+            (Mod65537::image(2), FALSE_SHEET, Ok(13)),
+            (Mod65537::image(1), FALSE_SHEET, Err(Refusal::PointWrong)),
+            (Mod65537::image(5), FALSE_SHEET, Err(Refusal::PointWrong)),
+            (Mod65537::image(300), FALSE_SHEET, Err(Refusal::PointWrong)),
+            (Mod65537::image(0), WRONG_SUM, Err(Refusal::SumWrong)),
+            (Mod65537::image(5), LARGE_CLAIM, Err(large_claim)),
+        ],
+    )
 }
 
 #[test]
 fn worked_sheets_over_other_fields(rt: HostRuntime) -> Result<(), Fail> {
-    let zero = Mersenne31::zero();
-    let five = Mersenne31::image(5);
-    let two = Mersenne31::image(2);
-    let cases = [
-        (five, MERSENNE_TRUE, Ok(14)),
-        (two, MERSENNE_FALSE, Ok(13)),
-        (five, MERSENNE_FALSE, Err(51)),
-    ];
-    for (point, sheet, found) in cases {
-        check_judged(&rt, 2, point, sheet, &mut [zero; 8], &mut [zero; 3], found)?;
-    }
-    let zero: Extension<Mod65537> = Field::zero();
+    check_cases(
+        &rt,
+        2,
+        &mut [Mersenne31::zero(); 8],
+        &mut [Mersenne31::zero(); 3],
+        &[
+            (Mersenne31::image(5), MERSENNE_TRUE, Ok(14)),
+            (Mersenne31::image(2), MERSENNE_FALSE, Ok(13)),
+            (
+                Mersenne31::image(5),
+                MERSENNE_FALSE,
+                Err(Refusal::PointWrong),
+            ),
+        ],
+    )?;
     let t: Extension<Mod65537> = Field::of_parts(0, 1);
-    let cases = [
-        (t, EXTENSION_TRUE, Ok(14)),
-        (t, EXTENSION_FALSE, Err(51)),
-        (zero, EXTENSION_FALSE, Ok(13)),
-    ];
-    for (point, sheet, found) in cases {
-        check_judged(&rt, 2, point, sheet, &mut [zero; 8], &mut [zero; 3], found)?;
-    }
-    Ok(())
+    check_cases(
+        &rt,
+        2,
+        &mut [Field::zero(); 8],
+        &mut [Field::zero(); 3],
+        &[
+            (t, EXTENSION_TRUE, Ok(14)),
+            (t, EXTENSION_FALSE, Err(Refusal::PointWrong)),
+            (Field::zero(), EXTENSION_FALSE, Ok(13)),
+        ],
+    )
 }
 
 #[test]
 fn one_row_and_short_trays(rt: HostRuntime) -> Result<(), Fail> {
     let zero = Mod65537::zero();
     let five = Mod65537::image(5);
-    let cases = [
-        (five, ONE_ROW_TRUE, Ok(9)),
-        (zero, ONE_ROW_FALSE, Err(51)),
-        (five, ONE_ROW_FALSE, Err(51)),
-    ];
-    for (point, sheet, found) in cases {
-        check_judged(&rt, 1, point, sheet, &mut [zero; 8], &mut [zero; 1], found)?;
-    }
-    check_judged(
+    check_cases(
+        &rt,
+        1,
+        &mut [zero; 8],
+        &mut [zero; 1],
+        &[
+            (five, ONE_ROW_TRUE, Ok(9)),
+            (zero, ONE_ROW_FALSE, Err(Refusal::PointWrong)),
+            (five, ONE_ROW_FALSE, Err(Refusal::PointWrong)),
+        ],
+    )?;
+    check_cases(
         &rt,
         2,
-        five,
-        TRUE_SHEET,
         &mut [zero; 8],
         &mut [zero; 2],
-        Err(21),
+        &[(five, TRUE_SHEET, Err(Refusal::TrayShort))],
     )?;
-    check_judged(&rt, 2, five, b"", &mut [zero; 8], &mut [zero; 3], Err(31))
+    let empty = Refusal::Sheet {
+        fault: Fault::Unexpected,
+        line: 1,
+        place: 0,
+    };
+    check_cases(
+        &rt,
+        2,
+        &mut [zero; 8],
+        &mut [zero; 3],
+        &[(five, b"", Err(empty))],
+    )
 }

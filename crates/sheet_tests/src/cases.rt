@@ -5,7 +5,6 @@ use field::Field;
 use prime::Mod65537;
 use sheet::{Terms, read_sheet};
 use std::process::Abort;
-use std::test::Fail;
 
 const TERMS: Terms = Terms {
     rows: 2,
@@ -21,81 +20,61 @@ const TERMS: Terms = Terms {
 };
 
 // A sheet is refused so, and leaves zero in the first three elements of the tray alone.
-fn check_refused(
-    rt: &impl Abort,
-    sheet: &[u8],
-    fault: Fault,
-    line: usize,
-    place: usize,
-) -> Result<(), Fail> {
+fn check_refused(rt: &impl Abort, sheet: &[u8], fault: Fault, line: usize, place: usize) {
     let mut tray = [Mod65537::one(); 4];
-    match read_sheet(sheet, &TERMS, &mut tray) {
-        Ok(_) => Err(Fail::new("a damaged sheet was read")),
-        Err(refusal) => {
-            assert_eq!(rt; refusal, Refusal::Sheet { fault, line, place });
-            assert_eq!(rt; refusal.number(), fault.number());
-            assert_eq!(rt; refusal.position(), Some((line, place)));
-            assert_eq!(rt; (tray[0].low(), tray[1].low()), (0, 0));
-            assert_eq!(rt; (tray[2].low(), tray[3].low()), (0, 1));
-            Ok(())
-        }
-    }
+    let refusal = Refusal::Sheet { fault, line, place };
+    assert_eq!(rt; read_sheet(sheet, &TERMS, &mut tray), Err(refusal));
+    assert_eq!(rt; refusal.number(), fault.number());
+    assert_eq!(rt; refusal.position(), Some((line, place)));
+    assert_eq!(rt; tray.map(Field::low), [0, 0, 0, 1]);
 }
 
 // A sheet reads as the worked one.
-fn check_read(rt: &impl Abort, sheet: &[u8]) -> Result<(), Fail> {
+fn check_read(rt: &impl Abort, sheet: &[u8]) {
     let mut tray = [Mod65537::one(); 4];
-    match read_sheet(sheet, &TERMS, &mut tray) {
-        Ok(claim) => {
-            assert_eq!(rt; claim, 14);
-            assert_eq!(rt; (tray[0].low(), tray[1].low()), (9, 5));
-            assert_eq!(rt; (tray[2].low(), tray[3].low()), (17, 1));
-            Ok(())
-        }
-        Err(_) => Err(Fail::new("a good sheet was refused")),
-    }
+    assert_eq!(rt; read_sheet(sheet, &TERMS, &mut tray), Ok(14));
+    assert_eq!(rt; tray.map(Field::low), [9, 5, 17, 1]);
 }
 
 #[test]
-fn cut_behind_every_byte(rt: HostRuntime) -> Result<(), Fail> {
+fn cut_behind_every_byte(rt: HostRuntime) {
     for (n, &(fault, line, place)) in CUTS.iter().enumerate() {
-        check_refused(&rt, &SHEET[..n], fault, line, place)?;
+        check_refused(&rt, &SHEET[..n], fault, line, place);
     }
-    Ok(())
 }
 
 #[test]
-fn changed_at_every_byte(rt: HostRuntime) -> Result<(), Fail> {
+fn changed_at_every_byte(rt: HostRuntime) {
     for (n, &(fault, line, place)) in CHANGES.iter().enumerate() {
         let mut changed = *SHEET;
         changed[n] = b'x';
-        check_refused(&rt, &changed, fault, line, place)?;
+        check_refused(&rt, &changed, fault, line, place);
     }
-    Ok(())
 }
 
 #[test]
-fn read_with_spaces_and_zeros(rt: HostRuntime) -> Result<(), Fail> {
-    check_read(&rt, SHEET)?;
+fn read_with_spaces_and_zeros(rt: HostRuntime) {
+    check_read(&rt, SHEET);
     check_read(
         &rt,
         b"  (sheet 65537 1 (grid 2 8))\n(claim (4 0 0) 00014)\n(at 0 (9 0))\n(at 1 (5 0))\n(at 2 (17 0))\n(end)\n   ",
-    )?;
+    );
     check_read(
         &rt,
         b"(sheet 65537 1 (grid 2 8))\n(claim (4 -0 0) 14)\n(at 0 (9 0))\n(at 1 (5 0))\n(at 2 (17 0))\n(end)\n",
-    )?;
+    );
     check_read(
         &rt,
         b"(sheet 65537 1(grid 2 8))\n(claim(4 0 0) 14)\n(at 0(9 0))\n(at 1(5 0))\n(at 2(17 0))\n(end)\n",
-    )?;
+    );
     check_read(
         &rt,
         b" ( sheet 65537 1  ( grid 2 8 )  )  \n ( claim  ( 4 0 0 )  14 )  \n ( at 0  ( 9 0 )  )  \n ( at 1  ( 5 0 )  )  \n ( at 2  ( 17 0 )  )  \n ( end )  \n",
-    )
+    );
 }
 
-const FIRST: [(&[u8], Fault, usize, usize); 11] = [
+// Damaged sheets, and what is told of each.
+const DAMAGED: [(&[u8], Fault, usize, usize); 22] = [
     // upper case
     (b"(Sheet 65537 1 (grid 2 8))\n", Fault::Malformed, 1, 1),
     // carriage return
@@ -158,17 +137,6 @@ const FIRST: [(&[u8], Fault, usize, usize); 11] = [
         1,
         23,
     ),
-];
-
-#[test]
-fn damaged_first(rt: HostRuntime) -> Result<(), Fail> {
-    for &(sheet, fault, line, place) in FIRST.iter() {
-        check_refused(&rt, sheet, fault, line, place)?;
-    }
-    Ok(())
-}
-
-const SECOND: [(&[u8], Fault, usize, usize); 11] = [
     // another tag
     (
         b"(sheet 65537 1 (grid 2 8))\n(claim (4 0 1) 14)\n(at 0 (9 0))\n(at 1 (5 0))\n(at 2 (17 0))\n(end)\n",
@@ -249,9 +217,8 @@ const SECOND: [(&[u8], Fault, usize, usize); 11] = [
 ];
 
 #[test]
-fn damaged_second(rt: HostRuntime) -> Result<(), Fail> {
-    for &(sheet, fault, line, place) in SECOND.iter() {
-        check_refused(&rt, sheet, fault, line, place)?;
+fn damaged(rt: HostRuntime) {
+    for &(sheet, fault, line, place) in DAMAGED.iter() {
+        check_refused(&rt, sheet, fault, line, place);
     }
-    Ok(())
 }

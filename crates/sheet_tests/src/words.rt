@@ -1,5 +1,8 @@
 // The number of each refusal, where it lies, and what it says in words.
 use board::{Fault, Refusal};
+use std::alloc::Global;
+use std::fmt::Display;
+use std::process::Abort;
 use std::test::Fail;
 
 const AT: Refusal = Refusal::Sheet {
@@ -98,22 +101,28 @@ const FAULTS: [(Fault, u8, &str); 8] = [
     ),
 ];
 
-#[test]
-fn refusals_in_numbers_and_words(rt: HostRuntime) -> Result<(), Fail> {
-    for (refusal, number, words) in REFUSALS.iter() {
-        assert_eq!(rt; refusal.number(), *number);
-        let text = format!(in rt.alloc(); "{refusal}")?;
-        assert_eq!(rt; text.as_str(), *words);
+fn check_words<T: Copy + Display, N: Fn(T) -> u8>(
+    rt: &impl Abort,
+    heap: Global,
+    rows: &[(T, u8, &str)],
+    number_of: N,
+) -> Result<(), Fail>
+    requires { N.IsAlwaysCallable number_of }
+{
+    for &(told, number, words) in rows {
+        assert_eq!(rt; number_of(told), number);
+        let text = format!(in heap; "{told}")?;
+        assert_eq!(rt; text.as_str(), words);
     }
     Ok(())
 }
 
 #[test]
+fn refusals_in_numbers_and_words(rt: HostRuntime) -> Result<(), Fail> {
+    check_words(&rt, rt.alloc(), &REFUSALS, Refusal::number)
+}
+
+#[test]
 fn faults_in_numbers_and_words(rt: HostRuntime) -> Result<(), Fail> {
-    for (fault, number, words) in FAULTS.iter() {
-        assert_eq!(rt; fault.number(), *number);
-        let text = format!(in rt.alloc(); "{fault}")?;
-        assert_eq!(rt; text.as_str(), *words);
-    }
-    Ok(())
+    check_words(&rt, rt.alloc(), &FAULTS, Fault::number)
 }
