@@ -2,7 +2,6 @@
 use crate::call::Call;
 use crate::convert::{elements, same_elements};
 use crate::inquiry::Inquiry;
-use crate::memory::{any_bytes, any_elements};
 use crate::outcome::{Outcome, wanted};
 use crate::table::Table;
 use field::Field;
@@ -33,8 +32,8 @@ impl<'a, F: Field, Q: Question<F>> Inquiry<'a, F, Q> {
         room: Room,
     ) -> Result<Outcome<Given>, AllocError> {
         let heap = table.heap;
-        let mut plain_tray = any_elements(heap, &mut table.dice, table.field, room.tray)?;
-        let mut plain_paper = any_bytes(heap, &mut table.dice, room.paper)?;
+        let mut plain_tray = table.any_elements(room.tray)?;
+        let mut plain_paper = table.any_bytes(room.paper)?;
         let mut tray: Vec<F> = elements(heap, plain_tray.as_slice())?;
         let mut paper = plain_paper.as_slice().to_vec(heap)?;
         let answer = self

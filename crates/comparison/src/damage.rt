@@ -1,5 +1,6 @@
 // Sheets with one thing changed, byte by byte and run by run.
 use crate::dice::Dice;
+use crate::memory::front;
 use reference::Arithmetic;
 use std::alloc::{AllocError, Global};
 
@@ -11,7 +12,7 @@ fn spliced(
     end: usize,
     new: &[u8],
 ) -> Result<Vec<u8>, AllocError> {
-    let mut all = text.get(0..start).unwrap_or(&[]).to_vec(heap)?;
+    let mut all = front(text, start).to_vec(heap)?;
     all.extend_from_slice(new)?;
     all.extend_from_slice(text.get(end..text.len()).unwrap_or(&[]))?;
     Ok(all)
@@ -24,8 +25,7 @@ fn stops(byte: u8) -> bool {
 
 // Where the run at a place begins.
 fn run_start(text: &[u8], at: usize) -> usize {
-    text.get(0..at)
-        .unwrap_or(&[])
+    front(text, at)
         .iter()
         .rposition(|byte| stops(*byte))
         .map_or(0, |i| i.saturating_add(1))
@@ -77,6 +77,7 @@ fn one_of<T: Copy>(dice: &mut Dice, several: &[T], other: T) -> T {
 fn odd_number(dice: &mut Dice, field: Arithmetic) -> i64 {
     let p = i64::try_from(field.p).unwrap_or(0);
     let limit = i64::try_from(field.limit).unwrap_or(0);
+    // No table of closures for the cases: each draws again from the dice.
     match dice.below(6) {
         0 => p.wrapping_sub(dice.between(0, 1)),
         1 => limit.wrapping_add(dice.between(0, 1)),

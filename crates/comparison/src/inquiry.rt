@@ -1,13 +1,14 @@
 // A question asked of both sealed ends: its answer, and its sheet, honest, false and damaged, judged.
-use crate::answers::Room;
+use crate::answers::{Given, Room};
 use crate::damage::{damaged, respaced};
 use crate::falsehood::falsified;
+use crate::memory::front;
 use crate::sealed::Sealed;
 use crate::table::Table;
 use board::Grid;
 use field::Field;
 use question::Question;
-use reference::{Ask, Element};
+use reference::{Ask, Sheet};
 use std::alloc::AllocError;
 
 // The question, in the product's form and in the reference's.
@@ -48,19 +49,18 @@ impl<'a, F: Field, Q: Question<F>> Inquiry<'a, F, Q> {
     fn judge_others(
         &mut self,
         table: &mut Table,
-        claim: i64,
-        values: &[Element],
+        honest: &Sheet,
         sheet: &[u8],
     ) -> Result<(), AllocError> {
         let bad = damaged(table.heap, &mut table.dice, table.field, sheet)?;
         self.judge_sheet(table, bad.as_slice())?;
         let wide = respaced(table.heap, &mut table.dice, sheet)?;
         self.judge_sheet(table, wide.as_slice())?;
-        let other = falsified(table, self.sealed.verifier_at, claim, values)?;
+        let other = falsified(table, self.sealed.verifier_at, honest)?;
         let game = table.game(self.sealed.verifier_at);
-        let text = game.write_sheet(self.ask.tag(), other.claim, other.values.as_slice())?;
+        let text = game.write_sheet(self.ask.tag(), &other)?;
         self.judge_sheet(table, text.as_bytes())?;
-        self.compare_writing(table, other.claim, other.values.as_slice(), 9216)
+        self.compare_writing(table, &other, 9216)
     }
 
     // Asks the question: what it says of itself, its answer, and its sheets, damaged and falsified so many times.
@@ -75,13 +75,15 @@ impl<'a, F: Field, Q: Question<F>> Inquiry<'a, F, Q> {
         let Ok(given) = self.compare_answer(table, Room { tray, paper })? else {
             return self.judge_sheet(table, b"(sheet");
         };
-        let sheet = given.sheet.as_slice();
+        let Given { claim, sheet, tray } = given;
+        let sheet = sheet.as_slice();
         self.judge_sheet(table, sheet)?;
         let point = table.dice.element(table.field);
         self.compare_rule(table, point)?;
-        let values = given.tray.as_slice().get(0..size as usize).unwrap_or(&[]);
+        let values = front(tray.as_slice(), size as usize).to_vec(table.heap)?;
+        let honest = Sheet { claim, values };
         for _ in 0..times {
-            self.judge_others(table, given.claim, values, sheet)?;
+            self.judge_others(table, &honest, sheet)?;
         }
         Ok(())
     }

@@ -2,7 +2,6 @@
 use crate::call::Call;
 use crate::convert::{elements, same_elements};
 use crate::inquiry::Inquiry;
-use crate::memory::any_elements;
 use crate::outcome::{Outcome, found, wanted};
 use crate::table::Table;
 use field::Field;
@@ -20,7 +19,7 @@ impl<'a, F: Field, Q: Question<F>> Inquiry<'a, F, Q> {
         room: u64,
     ) -> Result<(), AllocError> {
         let heap = table.heap;
-        let mut plain_tray = any_elements(heap, &mut table.dice, table.field, room)?;
+        let mut plain_tray = table.any_elements(room)?;
         let mut tray: Vec<F> = elements(heap, plain_tray.as_slice())?;
         let terms = terms_of(self.question, self.sealed.verifier.book().grid());
         let read = found(read_sheet(sheet, &terms, tray.as_mut_slice()));
@@ -40,7 +39,7 @@ impl<'a, F: Field, Q: Question<F>> Inquiry<'a, F, Q> {
         room: u64,
     ) -> Result<Outcome<i64>, AllocError> {
         let heap = table.heap;
-        let mut plain_tray = any_elements(heap, &mut table.dice, table.field, room)?;
+        let mut plain_tray = table.any_elements(room)?;
         let mut tray: Vec<F> = elements(heap, plain_tray.as_slice())?;
         let judged = self.sealed.judge(self.question, sheet, tray.as_mut_slice());
         let plain = table.game(self.sealed.verifier_at).judge(

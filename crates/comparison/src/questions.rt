@@ -9,9 +9,15 @@ use reference::{Ask, Standing};
 use season::{Cell, Goods, Range, Season, Squares};
 use std::alloc::AllocError;
 
+// A range that runs backward, in both forms.
+pub const BACKWARD: Range = Range { first: 9, last: 8 };
+
+pub const BACKWARD_ASK: Ask = Ask::Range(9, 8);
+
 // A question for a board, mostly one that fits.
 pub fn any_ask(dice: &mut Dice, at: Standing) -> Ask {
     let cells = at.cells().saturating_add(dice.below(2));
+    // No table of closures for the cases: each draws again from the dice.
     match dice.below(9) {
         0 | 1 => Ask::Cell(dice.below(cells)),
         2 | 3 => Ask::Goods(dice.below(9)),
@@ -34,22 +40,23 @@ pub fn any_ask(dice: &mut Dice, at: Standing) -> Ask {
     }
 }
 
-fn number(n: u64) -> u32 {
+// A number as the product has it; 0 where that has no room.
+fn narrow(n: u64) -> u32 {
     u32::try_from(n).unwrap_or(0)
 }
 
 fn cell(i: u64) -> Cell {
-    Cell { index: number(i) }
+    Cell { index: narrow(i) }
 }
 
 fn goods(g: u64) -> Goods {
-    Goods { kind: number(g) }
+    Goods { kind: narrow(g) }
 }
 
 fn range(a: u64, b: u64) -> Range {
     Range {
-        first: number(a),
-        last: number(b),
+        first: narrow(a),
+        last: narrow(b),
     }
 }
 
@@ -78,7 +85,7 @@ fn inquire_plainly<F: Field>(
         Ask::Squares => Inquiry::new(sealed, &Squares, ask).inquire(table, times),
         Ask::Stated(degree) => {
             let stated = Stated {
-                degree: number(degree),
+                degree: narrow(degree),
             };
             Inquiry::new(sealed, &stated, ask).inquire(table, times)
         }
