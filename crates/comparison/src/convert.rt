@@ -35,7 +35,8 @@ pub fn plain_move(m: Move) -> reference::Move {
     }
 }
 
-// Whether what was found is, in plain numbers, what is wanted, one by one.
+// Whether what was found is, in plain numbers, what is wanted, one by one. Tried without the `requires`: the proof did not
+// close, since only the caller knows that its closure can be called.
 pub(crate) fn same<X: Copy, Y: Copy + PartialEq, P: Fn(X) -> Y>(
     found: &[X],
     wanted: &[Y],

@@ -1,6 +1,7 @@
 // Sheets with one thing changed, byte by byte and run by run.
 use crate::dice::Dice;
 use crate::memory::front;
+use crate::table::Table;
 use reference::Arithmetic;
 use std::alloc::{AllocError, Global};
 
@@ -89,12 +90,10 @@ fn odd_number(dice: &mut Dice, field: Arithmetic) -> i64 {
 }
 
 // A sheet with one run, byte or end changed.
-pub fn damaged(
-    heap: Global,
-    dice: &mut Dice,
-    field: Arithmetic,
-    text: &[u8],
-) -> Result<Vec<u8>, AllocError> {
+pub fn damaged(table: &mut Table, text: &[u8]) -> Result<Vec<u8>, AllocError> {
+    let heap = table.heap;
+    let field = table.field;
+    let dice = &mut table.dice;
     let end = text.len();
     let at = dice.below(end as u64) as usize;
     let behind = at.wrapping_add(1);
@@ -115,8 +114,9 @@ pub fn damaged(
 
 // A sheet with more spaces and zeros, which says the same as long as no number grows past ten digits. A chain would be
 // no plainer: a byte becomes one, two or three, by the byte before and by the dice.
-pub fn respaced(heap: Global, dice: &mut Dice, text: &[u8]) -> Result<Vec<u8>, AllocError> {
-    let mut all = Vec::new(heap);
+pub fn respaced(table: &mut Table, text: &[u8]) -> Result<Vec<u8>, AllocError> {
+    let mut all = Vec::new(table.heap);
+    let dice = &mut table.dice;
     let mut before = b' ';
     for byte in text {
         if stops(*byte) && dice.one_in(6) {

@@ -53,8 +53,8 @@ fn answer_over<F: Field>(table: &mut Table, sealed: &mut Sealed<F>) -> Result<()
         (20, 9300),
     ] {
         let room = Room { tray, paper };
-        let _ = Inquiry::new(sealed, &Squares, Ask::Squares).compare_answer(table, room)?;
-        let _ = Inquiry::new(sealed, &BACKWARD, BACKWARD_ASK).compare_answer(table, room)?;
+        let _ = Inquiry::new(table, sealed, &Squares, Ask::Squares).compare_answer(room)?;
+        let _ = Inquiry::new(table, sealed, &BACKWARD, BACKWARD_ASK).compare_answer(room)?;
     }
     Ok(())
 }
@@ -62,8 +62,8 @@ fn answer_over<F: Field>(table: &mut Table, sealed: &mut Sealed<F>) -> Result<()
 // Judges with trays of all lengths around those needed.
 fn judge_over<F: Field>(table: &mut Table, sealed: &mut Sealed<F>) -> Result<(), AllocError> {
     for room in 0..5 {
-        let _ = Inquiry::new(sealed, &Squares, Ask::Squares).compare_judgement(table, b"", room)?;
-        let _ = Inquiry::new(sealed, &BACKWARD, BACKWARD_ASK).compare_judgement(table, b"", room)?;
+        let _ = Inquiry::new(table, sealed, &Squares, Ask::Squares).compare_judgement(b"", room)?;
+        let _ = Inquiry::new(table, sealed, &BACKWARD, BACKWARD_ASK).compare_judgement(b"", room)?;
     }
     Ok(())
 }
@@ -81,10 +81,10 @@ fn write_long<F: Field>(table: &mut Table, sealed: &mut Sealed<F>) -> Result<(),
         claim: i64::MAX,
         values: vec![in table.heap; element; 254]?,
     };
-    let mut inquiry = Inquiry::new(sealed, &Squares, Ask::Squares);
+    let mut inquiry = Inquiry::new(table, sealed, &Squares, Ask::Squares);
     for paper in [9216, 9215, 9300] {
-        inquiry.compare_writing(table, &longest, paper)?;
-        inquiry.compare_writing(table, &longer, paper)?;
+        inquiry.compare_writing(&longest, paper)?;
+        inquiry.compare_writing(&longer, paper)?;
     }
     Ok(())
 }
@@ -108,7 +108,7 @@ pub fn play_edges<F: Field>(table: &mut Table) -> Result<(), Stop> {
     table.report.next_game();
     let counts = table.any_counts(16)?;
     let sums = table.any_elements(8)?;
-    let point = table.dice.element(table.field);
+    let point = table.any_element();
     let Some(mut both) = Listening::<F>::open(table, 2, 8, point, counts, sums)? else {
         return Ok(());
     };

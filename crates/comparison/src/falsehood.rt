@@ -61,7 +61,7 @@ pub fn falsified(table: &mut Table, at: Standing, honest: &Sheet) -> Result<Shee
     let p = i64::try_from(field.p).unwrap_or(0);
     let k = dice.below(values.len() as u64) as usize;
     let any = dice.element(field);
-    // No table of closures for the cases: most draw again from the dice, or lend the heap.
+    // No table of closures for the cases: the last draws again from the dice, and each takes memory of its own.
     let (claim, values) = match dice.below(6) {
         0 => (claim.wrapping_add(c), values.to_vec(heap)?),
         1 => (claim.wrapping_add(p.wrapping_mul(c)), values.to_vec(heap)?),

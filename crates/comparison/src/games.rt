@@ -26,7 +26,7 @@ pub struct Plan {
 
 // A move, mostly one that counts.
 pub fn any_move(dice: &mut Dice, cells: u64) -> Move {
-    // No table of closures for the cases: each draws again from the dice.
+    // No table of closures for the cases here and below: most draw again from the dice.
     let cell = match dice.below(12) {
         0 => cells.saturating_add(dice.below(3)),
         1 => dice.next(),
@@ -48,7 +48,7 @@ fn any_point(table: &mut Table, rows: u64) -> Element {
     if table.dice.one_in(2) {
         Element::whole(table.dice.below(rows.saturating_mul(2)))
     } else {
-        table.dice.element(table.field)
+        table.any_element()
     }
 }
 

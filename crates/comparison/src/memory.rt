@@ -4,6 +4,10 @@ use reference::Element;
 use std::alloc::AllocError;
 
 impl Table {
+    pub fn any_element(&mut self) -> Element {
+        self.dice.element(self.field)
+    }
+
     pub fn any_elements(&mut self, n: u64) -> Result<Vec<Element>, AllocError> {
         let field = self.field;
         let dice = &mut self.dice;

@@ -17,7 +17,7 @@ pub const BACKWARD_ASK: Ask = Ask::Range(9, 8);
 // A question for a board, mostly one that fits.
 pub fn any_ask(dice: &mut Dice, at: Standing) -> Ask {
     let cells = at.cells().saturating_add(dice.below(2));
-    // No table of closures for the cases: each draws again from the dice.
+    // No table of closures for the cases here and below: most draw again from the dice.
     match dice.below(9) {
         0 | 1 => Ask::Cell(dice.below(cells)),
         2 | 3 => Ask::Goods(dice.below(9)),
@@ -79,15 +79,15 @@ fn inquire_plainly<F: Field>(
     times: u64,
 ) -> Result<(), AllocError> {
     match ask {
-        Ask::Cell(i) => Inquiry::new(sealed, &cell(i), ask).inquire(table, times),
-        Ask::Goods(g) => Inquiry::new(sealed, &goods(g), ask).inquire(table, times),
-        Ask::Range(a, b) => Inquiry::new(sealed, &range(a, b), ask).inquire(table, times),
-        Ask::Squares => Inquiry::new(sealed, &Squares, ask).inquire(table, times),
+        Ask::Cell(i) => Inquiry::new(table, sealed, &cell(i), ask).inquire(times),
+        Ask::Goods(g) => Inquiry::new(table, sealed, &goods(g), ask).inquire(times),
+        Ask::Range(a, b) => Inquiry::new(table, sealed, &range(a, b), ask).inquire(times),
+        Ask::Squares => Inquiry::new(table, sealed, &Squares, ask).inquire(times),
         Ask::Stated(degree) => {
             let stated = Stated {
                 degree: narrow(degree),
             };
-            Inquiry::new(sealed, &stated, ask).inquire(table, times)
+            Inquiry::new(table, sealed, &stated, ask).inquire(times)
         }
     }
 }
@@ -101,7 +101,7 @@ pub fn inquire_any<F: Field>(
 ) -> Result<(), AllocError> {
     match mixed(ask) {
         Some(season) if !table.dice.one_in(2) => {
-            Inquiry::new(sealed, &season, ask).inquire(table, times)
+            Inquiry::new(table, sealed, &season, ask).inquire(times)
         }
         _ => inquire_plainly(table, sealed, ask, times),
     }

@@ -46,8 +46,8 @@ fn holds_judgement<F: Field>(
     let sheet = Sheet { claim, values };
     let game = table.game(sealed.verifier_at);
     let text = game.write_sheet(Ask::Squares.tag(), &sheet)?;
-    let mut inquiry = Inquiry::new(sealed, &Squares, Ask::Squares);
-    let found = inquiry.compare_judgement(table, text.as_bytes(), 4)?;
+    let mut inquiry = Inquiry::new(table, sealed, &Squares, Ask::Squares);
+    let found = inquiry.compare_judgement(text.as_bytes(), 4)?;
     table.report.number("worked: a judgement", &found, known);
     Ok(())
 }
@@ -58,7 +58,7 @@ const SQUARES: &[u8] =
 
 // Squares and ranges asked of the host.
 fn ask_host<F: Field>(table: &mut Table, sealed: &mut Sealed<F>) -> Result<(), AllocError> {
-    let given = Inquiry::new(sealed, &Squares, Ask::Squares).compare_answer(table, ROOM)?;
+    let given = Inquiry::new(table, sealed, &Squares, Ask::Squares).compare_answer(ROOM)?;
     holds_values(table, &given, 14, [9, 5, 17]);
     if table.field.p == 65_537 && table.field.e == 1 {
         let known = given
@@ -67,9 +67,9 @@ fn ask_host<F: Field>(table: &mut Table, sealed: &mut Sealed<F>) -> Result<(), A
         table.report.holds("worked: the sheet", known);
     }
     let range = Range { first: 8, last: 9 };
-    let given = Inquiry::new(sealed, &range, Ask::Range(8, 9)).compare_answer(table, ROOM)?;
+    let given = Inquiry::new(table, sealed, &range, Ask::Range(8, 9)).compare_answer(ROOM)?;
     holds_values(table, &given, -1, [0, -1, -10]);
-    let given = Inquiry::new(sealed, &BACKWARD, BACKWARD_ASK).compare_answer(table, ROOM)?;
+    let given = Inquiry::new(table, sealed, &BACKWARD, BACKWARD_ASK).compare_answer(ROOM)?;
     table.report.number(
         "worked: a range that runs backward",
         &given,
@@ -99,13 +99,13 @@ fn ask_verifier<F: Field>(table: &mut Table, sealed: &mut Sealed<F>) -> Result<(
     let beyond = i64::try_from(table.field.p).unwrap_or(0).wrapping_add(14);
     let claim_wrong = Err(Fault::Claim.number());
     holds_judgement(table, sealed, beyond, [9, 5, 17], claim_wrong)?;
-    let found = Inquiry::new(sealed, &Squares, Ask::Squares).compare_judgement(table, b"", 4)?;
+    let found = Inquiry::new(table, sealed, &Squares, Ask::Squares).compare_judgement(b"", 4)?;
     let start = Position { line: 1, place: 0 };
     let known = Refused::from(Refusal::Sheet(Fault::Unexpected, start));
     table
         .report
         .holds("worked: an empty sheet", found == Err(known));
-    let found = Inquiry::new(sealed, &BACKWARD, BACKWARD_ASK).compare_judgement(table, b"", 4)?;
+    let found = Inquiry::new(table, sealed, &BACKWARD, BACKWARD_ASK).compare_judgement(b"", 4)?;
     table.report.number(
         "worked: a range that runs backward, judged",
         &found,
@@ -114,7 +114,8 @@ fn ask_verifier<F: Field>(table: &mut Table, sealed: &mut Sealed<F>) -> Result<(
     Ok(())
 }
 
-// The bank at the point 5 modulo 65,537, and the squares rule at t where there is a t.
+// The bank at the point 5 modulo 65,537, and the squares rule at t where there is a t; each number apart, since the
+// number of comparisons is printed.
 fn holds_bank<F: Field>(table: &mut Table, sealed: &Sealed<F>) -> Result<(), AllocError> {
     let bank = sealed.plain_sums.as_slice();
     let game = table.game(sealed.verifier_at);
