@@ -2,7 +2,6 @@
 use crate::call::Call;
 use crate::convert::{elements, same_elements};
 use crate::inquiry::Inquiry;
-use crate::memory::{any_bytes, any_elements};
 use crate::outcome::{Outcome, wanted};
 use crate::table::Table;
 use field::Field;
@@ -27,34 +26,30 @@ pub struct Given {
 
 impl<'a, F: Field, Q: Question<F>> Inquiry<'a, F, Q> {
     // Answers the question, with trays and papers of any content.
-    pub fn compare_answer(
-        &mut self,
-        table: &mut Table,
-        room: Room,
-    ) -> Result<Outcome<Given>, AllocError> {
-        let heap = table.heap;
-        let mut plain_tray = any_elements(heap, &mut table.dice, table.field, room.tray)?;
-        let mut plain_paper = any_bytes(heap, &mut table.dice, room.paper)?;
+    pub fn compare_answer(&mut self, room: Room) -> Result<Outcome<Given>, AllocError> {
+        let heap = self.table.heap;
+        let mut plain_tray = self.table.any_elements(room.tray)?;
+        let mut plain_paper = self.table.any_bytes(room.paper)?;
         let mut tray: Vec<F> = elements(heap, plain_tray.as_slice())?;
         let mut paper = plain_paper.as_slice().to_vec(heap)?;
         let answer = self
             .sealed
             .answer(self.question, tray.as_mut_slice(), paper.as_mut_slice());
-        let plain = table.game(self.sealed.host_at).answer(
+        let plain = self.table.game(self.sealed.host_at).answer(
             self.sealed.plain_counts.as_slice(),
             self.ask,
             plain_tray.as_mut_slice(),
             plain_paper.as_mut_slice(),
         );
         let plain = wanted(plain)?;
-        table
+        self.table
             .report
             .outcome(Call::Answer, "an answer", &answer, &plain);
-        table.report.holds(
+        self.table.report.holds(
             "the tray after an answer",
             same_elements(tray.as_slice(), plain_tray.as_slice()),
         );
-        table
+        self.table
             .report
             .holds("the paper after an answer", paper == plain_paper);
         Ok(plain.map(|answered| {

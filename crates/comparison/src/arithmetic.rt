@@ -4,7 +4,7 @@ use crate::table::Table;
 use field::Field;
 use reference::Element;
 
-// Holds an element to a pair.
+// Holds an element to a pair: two comparisons, low and high apart, since their number is printed.
 fn compare<F: Field>(table: &mut Table, what: &'static str, found: F, wanted: Element) {
     table.report.same(what, u64::from(found.low()), wanted.low);
     table
@@ -66,8 +66,8 @@ pub fn compare_arithmetic<F: Field>(table: &mut Table, times: u64) {
     let zero = Element::zero();
     compare_two::<F>(table, zero, zero);
     for _ in 0..times {
-        let a = table.dice.element(table.field);
-        let b = table.dice.element(table.field);
+        let a = table.any_element();
+        let b = table.any_element();
         compare_two::<F>(table, a, b);
         compare_two::<F>(table, a, a);
     }

@@ -27,10 +27,10 @@ impl<F: Field> Listening<F> {
     ) -> Result<Option<Listening<F>>, AllocError> {
         let host = HostPair::open(table, rows, columns, (), counts)?;
         let verifier = VerifierPair::open(table, rows, columns, point, sums)?;
-        Ok(match (host, verifier) {
-            (Some(host), Some(verifier)) => Some(Listening { host, verifier }),
-            _ => None,
-        })
+        Ok(
+            host.zip(verifier)
+                .map(|(host, verifier)| Listening { host, verifier }),
+        )
     }
 
     // Tells both ends a move: what the host's and what the box's call came to.

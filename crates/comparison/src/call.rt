@@ -1,7 +1,7 @@
 // What is compared: the calls of both ends.
 use std::fmt;
 
-#[derive(Clone, Copy, PartialEq, Eq, PartialOrd, Ord, Debug)]
+#[derive(Clone, Copy, PartialEq, Eq, Debug)]
 pub enum Call {
     OpenHost,
     OpenBox,

@@ -1,4 +1,5 @@
 // Elements of the product's fields and plain pairs of numbers.
+use board::Move;
 use field::Field;
 use reference::Element;
 use std::alloc::{AllocError, Global};
@@ -26,7 +27,16 @@ pub fn elements<F: Field>(heap: Global, xs: &[Element]) -> Result<Vec<F>, AllocE
     xs.iter().map(|x| element(*x)).collect(heap)
 }
 
-// Whether what was found is, in plain numbers, what is wanted, one by one.
+// A move as the reference has it. No `From`: both types are of other crates.
+pub fn plain_move(m: Move) -> reference::Move {
+    reference::Move {
+        cell: m.cell,
+        amount: m.amount,
+    }
+}
+
+// Whether what was found is, in plain numbers, what is wanted, one by one. Tried without the `requires`: the proof did not
+// close, since only the caller knows that its closure can be called.
 pub(crate) fn same<X: Copy, Y: Copy + PartialEq, P: Fn(X) -> Y>(
     found: &[X],
     wanted: &[Y],
@@ -34,7 +44,7 @@ pub(crate) fn same<X: Copy, Y: Copy + PartialEq, P: Fn(X) -> Y>(
 ) -> bool
     requires { P.IsAlwaysCallable plain }
 {
-    found.len() == wanted.len() && found.iter().zip(wanted).all(|(x, y)| plain(*x) == *y)
+    found.iter().map(|x| plain(*x)).eq(wanted.iter().copied())
 }
 
 pub fn same_elements<F: Field>(found: &[F], wanted: &[Element]) -> bool {

@@ -1,27 +1,27 @@
 // How often a call was granted, and how often it came to each refusal.
 
 // The numbers of refusals are below this.
-const NUMBERS: usize = 64;
+const BEYOND: usize = 64;
 
 #[derive(Clone, Copy)]
 pub(crate) struct Counts {
     granted: u64,
-    refused: [u64; NUMBERS],
+    refused: [u64; BEYOND],
 }
 
 impl Counts {
     pub(crate) fn new() -> Counts {
         Counts {
             granted: 0,
-            refused: [0; NUMBERS],
+            refused: [0; BEYOND],
         }
     }
 
-    // Counts a refusal's number, or that there was none.
-    pub(crate) fn add(&mut self, number: Option<u64>) {
-        match number {
-            None => self.granted = self.granted.wrapping_add(1),
-            Some(number) => {
+    // Counts a call that was granted, or a refusal's number.
+    pub(crate) fn add(&mut self, came: Result<(), u64>) {
+        match came {
+            Ok(()) => self.granted = self.granted.wrapping_add(1),
+            Err(number) => {
                 if let Some(count) = self.refused.get_mut(number as usize) {
                     *count = count.wrapping_add(1);
                 }
@@ -29,11 +29,12 @@ impl Counts {
         }
     }
 
-    // How often a refusal's number came, or none.
-    pub(crate) fn of(&self, number: Option<u64>) -> u64 {
-        match number {
-            None => self.granted,
-            Some(number) => self.refused.get(number as usize).copied().unwrap_or(0),
-        }
+    pub(crate) fn granted(&self) -> u64 {
+        self.granted
+    }
+
+    // How often a refusal's number came.
+    pub(crate) fn refused(&self, number: u64) -> u64 {
+        self.refused.get(number as usize).copied().unwrap_or(0)
     }
 }

@@ -1,5 +1,7 @@
 // Sheets with one thing changed, byte by byte and run by run.
 use crate::dice::Dice;
+use crate::memory::front;
+use crate::table::Table;
 use reference::Arithmetic;
 use std::alloc::{AllocError, Global};
 
@@ -11,7 +13,7 @@ fn spliced(
     end: usize,
     new: &[u8],
 ) -> Result<Vec<u8>, AllocError> {
-    let mut all = text.get(0..start).unwrap_or(&[]).to_vec(heap)?;
+    let mut all = front(text, start).to_vec(heap)?;
     all.extend_from_slice(new)?;
     all.extend_from_slice(text.get(end..text.len()).unwrap_or(&[]))?;
     Ok(all)
@@ -24,8 +26,7 @@ fn stops(byte: u8) -> bool {
 
 // Where the run at a place begins.
 fn run_start(text: &[u8], at: usize) -> usize {
-    text.get(0..at)
-        .unwrap_or(&[])
+    front(text, at)
         .iter()
         .rposition(|byte| stops(*byte))
         .map_or(0, |i| i.saturating_add(1))
@@ -77,6 +78,7 @@ fn one_of<T: Copy>(dice: &mut Dice, several: &[T], other: T) -> T {
 fn odd_number(dice: &mut Dice, field: Arithmetic) -> i64 {
     let p = i64::try_from(field.p).unwrap_or(0);
     let limit = i64::try_from(field.limit).unwrap_or(0);
+    // No table of closures for the cases: each draws again from the dice.
     match dice.below(6) {
         0 => p.wrapping_sub(dice.between(0, 1)),
         1 => limit.wrapping_add(dice.between(0, 1)),
@@ -88,12 +90,10 @@ fn odd_number(dice: &mut Dice, field: Arithmetic) -> i64 {
 }
 
 // A sheet with one run, byte or end changed.
-pub fn damaged(
-    heap: Global,
-    dice: &mut Dice,
-    field: Arithmetic,
-    text: &[u8],
-) -> Result<Vec<u8>, AllocError> {
+pub fn damaged(table: &mut Table, text: &[u8]) -> Result<Vec<u8>, AllocError> {
+    let heap = table.heap;
+    let field = table.field;
+    let dice = &mut table.dice;
     let end = text.len();
     let at = dice.below(end as u64) as usize;
     let behind = at.wrapping_add(1);
@@ -114,8 +114,9 @@ pub fn damaged(
 
 // A sheet with more spaces and zeros, which says the same as long as no number grows past ten digits. A chain would be
 // no plainer: a byte becomes one, two or three, by the byte before and by the dice.
-pub fn respaced(heap: Global, dice: &mut Dice, text: &[u8]) -> Result<Vec<u8>, AllocError> {
-    let mut all = Vec::new(heap);
+pub fn respaced(table: &mut Table, text: &[u8]) -> Result<Vec<u8>, AllocError> {
+    let mut all = Vec::new(table.heap);
+    let dice = &mut table.dice;
     let mut before = b' ';
     for byte in text {
         if stops(*byte) && dice.one_in(6) {

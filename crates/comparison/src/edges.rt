@@ -3,20 +3,17 @@ use crate::answers::Room;
 use crate::both::Listening;
 use crate::hosts::HostPair;
 use crate::inquiry::Inquiry;
-use crate::memory::{any_counts, any_elements};
+use crate::questions::{BACKWARD, BACKWARD_ASK};
 use crate::sealed::Sealed;
 use crate::table::Table;
 use board::Move;
 use field::Field;
-use reference::{Ask, Element, Stop};
-use season::{Range, Squares};
+use reference::{Ask, Element, Sheet, Stop};
+use season::Squares;
 use std::alloc::AllocError;
 
-// A range that runs backward.
-const UNFIT: Range = Range { first: 9, last: 8 };
-
 // Puts a count into a cell, behind the back of both hosts.
-fn poke<F: Field>(host: &mut HostPair<F>, cell: usize, count: i32) {
+fn set_count<F: Field>(host: &mut HostPair<F>, cell: usize, count: i32) {
     if let Some(own) = host.cells.get_mut(cell) {
         *own = count;
     }
@@ -26,7 +23,7 @@ fn poke<F: Field>(host: &mut HostPair<F>, cell: usize, count: i32) {
 }
 
 // Moves at a cell whose count is at the limit or beyond it, and elsewhere.
-fn note_poked<F: Field>(table: &mut Table, host: &mut HostPair<F>) -> Result<(), AllocError> {
+fn note_at_limit<F: Field>(table: &mut Table, host: &mut HostPair<F>) -> Result<(), AllocError> {
     let limit = i32::try_from(table.field.limit).unwrap_or(0);
     let least = limit.wrapping_neg();
     for count in [
@@ -36,12 +33,12 @@ fn note_poked<F: Field>(table: &mut Table, host: &mut HostPair<F>) -> Result<(),
         least.wrapping_sub(1),
         i32::MIN,
     ] {
-        poke(host, 1, count);
+        set_count(host, 1, count);
         for cell in [1, 2, 16] {
             let _ = host.note(table, Move { cell, amount: -1 })?;
         }
     }
-    poke(host, 1, 0);
+    set_count(host, 1, 0);
     Ok(())
 }
 
@@ -56,8 +53,8 @@ fn answer_over<F: Field>(table: &mut Table, sealed: &mut Sealed<F>) -> Result<()
         (20, 9300),
     ] {
         let room = Room { tray, paper };
-        let _ = Inquiry::new(sealed, &Squares, Ask::Squares).compare_answer(table, room)?;
-        let _ = Inquiry::new(sealed, &UNFIT, Ask::Range(9, 8)).compare_answer(table, room)?;
+        let _ = Inquiry::new(table, sealed, &Squares, Ask::Squares).compare_answer(room)?;
+        let _ = Inquiry::new(table, sealed, &BACKWARD, BACKWARD_ASK).compare_answer(room)?;
     }
     Ok(())
 }
@@ -65,8 +62,8 @@ fn answer_over<F: Field>(table: &mut Table, sealed: &mut Sealed<F>) -> Result<()
 // Judges with trays of all lengths around those needed.
 fn judge_over<F: Field>(table: &mut Table, sealed: &mut Sealed<F>) -> Result<(), AllocError> {
     for room in 0..5 {
-        let _ = Inquiry::new(sealed, &Squares, Ask::Squares).compare_judgement(table, b"", room)?;
-        let _ = Inquiry::new(sealed, &UNFIT, Ask::Range(9, 8)).compare_judgement(table, b"", room)?;
+        let _ = Inquiry::new(table, sealed, &Squares, Ask::Squares).compare_judgement(b"", room)?;
+        let _ = Inquiry::new(table, sealed, &BACKWARD, BACKWARD_ASK).compare_judgement(b"", room)?;
     }
     Ok(())
 }
@@ -75,12 +72,19 @@ fn judge_over<F: Field>(table: &mut Table, sealed: &mut Sealed<F>) -> Result<(),
 fn write_long<F: Field>(table: &mut Table, sealed: &mut Sealed<F>) -> Result<(), AllocError> {
     let most = table.field.p.saturating_sub(1);
     let high = if table.field.e == 1 { 0 } else { most };
-    let values = vec![in table.heap; Element { low: most, high }; 254]?;
-    let fewer = values.as_slice().get(0..253).unwrap_or(&[]);
-    let mut inquiry = Inquiry::new(sealed, &Squares, Ask::Squares);
+    let element = Element { low: most, high };
+    let longest = Sheet {
+        claim: i64::MIN,
+        values: vec![in table.heap; element; 253]?,
+    };
+    let longer = Sheet {
+        claim: i64::MAX,
+        values: vec![in table.heap; element; 254]?,
+    };
+    let mut inquiry = Inquiry::new(table, sealed, &Squares, Ask::Squares);
     for paper in [9216, 9215, 9300] {
-        inquiry.compare_writing(table, i64::MIN, fewer, paper)?;
-        inquiry.compare_writing(table, i64::MAX, values.as_slice(), paper)?;
+        inquiry.compare_writing(&longest, paper)?;
+        inquiry.compare_writing(&longer, paper)?;
     }
     Ok(())
 }
@@ -102,15 +106,15 @@ fn ask_short<F: Field>(table: &mut Table, sealed: &mut Sealed<F>) -> Result<(), 
 // All these on a board of two rows and eight columns, and moves with banks that are one cell short.
 pub fn play_edges<F: Field>(table: &mut Table) -> Result<(), Stop> {
     table.report.next_game();
-    let counts = any_counts(table.heap, &mut table.dice, 16)?;
-    let sums = any_elements(table.heap, &mut table.dice, table.field, 8)?;
-    let point = table.dice.element(table.field);
+    let counts = table.any_counts(16)?;
+    let sums = table.any_elements(8)?;
+    let point = table.any_element();
     let Some(mut both) = Listening::<F>::open(table, 2, 8, point, counts, sums)? else {
         return Ok(());
     };
     let m = Move { cell: 0, amount: 3 };
     let _ = both.note(table, m)?;
-    note_poked(table, &mut both.host)?;
+    note_at_limit(table, &mut both.host)?;
     both.host.note_short(table, m)?;
     both.verifier.note_short(table, m)?;
     ask_short(table, &mut both.seal())?;

@@ -92,13 +92,8 @@ impl<E: End> Pair<E> {
         table.report.outcome(names.open, names.opening, &bare(&opened), &bare(&standing));
         let same = same(cells.as_slice(), plain.as_slice(), |x| E::plain(x));
         table.report.holds(names.opened_bank, same);
-        let Ok(product) = opened else {
-            return Ok(None);
-        };
-        let Ok(standing) = standing else {
-            return Ok(None);
-        };
-        Ok(Some(Pair {
+        let both = opened.ok().zip(standing.ok());
+        Ok(both.map(|(product, standing)| Pair {
             product,
             cells,
             standing,

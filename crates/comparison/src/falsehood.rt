@@ -51,19 +51,17 @@ fn replaced(
 }
 
 // A claim and values near the honest ones.
-pub fn falsified(
-    table: &mut Table,
-    at: Standing,
-    claim: i64,
-    values: &[Element],
-) -> Result<Sheet, AllocError> {
+pub fn falsified(table: &mut Table, at: Standing, honest: &Sheet) -> Result<Sheet, AllocError> {
     let heap = table.heap;
     let field = table.field;
     let dice = &mut table.dice;
+    let claim = honest.claim;
+    let values = honest.values.as_slice();
     let c = dice.between(-3, 3);
     let p = i64::try_from(field.p).unwrap_or(0);
     let k = dice.below(values.len() as u64) as usize;
     let any = dice.element(field);
+    // No table of closures for the cases: the last draws again from the dice, and each takes memory of its own.
     let (claim, values) = match dice.below(6) {
         0 => (claim.wrapping_add(c), values.to_vec(heap)?),
         1 => (claim.wrapping_add(p.wrapping_mul(c)), values.to_vec(heap)?),

@@ -1,8 +1,8 @@
 // Whole games: both ends opened, told moves, sealed and asked.
 use crate::both::Listening;
-use crate::convert::{same, same_elements};
+use crate::convert::{plain_move, same, same_elements};
 use crate::dice::Dice;
-use crate::memory::{any_counts, any_elements};
+use crate::memory::front;
 use crate::outcome::{number_of, wanted};
 use crate::questions::{any_ask, inquire_any};
 use crate::table::Table;
@@ -26,6 +26,7 @@ pub struct Plan {
 
 // A move, mostly one that counts.
 pub fn any_move(dice: &mut Dice, cells: u64) -> Move {
+    // No table of closures for the cases here and below: most draw again from the dice.
     let cell = match dice.below(12) {
         0 => cells.saturating_add(dice.below(3)),
         1 => dice.next(),
@@ -47,7 +48,7 @@ fn any_point(table: &mut Table, rows: u64) -> Element {
     if table.dice.one_in(2) {
         Element::whole(table.dice.below(rows.saturating_mul(2)))
     } else {
-        table.dice.element(table.field)
+        table.any_element()
     }
 }
 
@@ -58,7 +59,7 @@ fn tell<F: Field>(
     both: &mut Listening<F>,
     m: Move,
 ) -> Result<(), AllocError> {
-    let told = number_of(&wanted(ledger.note(m.cell, m.amount))?);
+    let told = number_of(&wanted(ledger.note(plain_move(m)))?);
     let (at_host, at_verifier) = both.note(table, m)?;
     let report = &mut table.report;
     report.number("the ledger's answer, at the host", &at_host, told);
@@ -82,25 +83,15 @@ fn compare_banks<F: Field>(
     let columns = table
         .game(at)
         .columns_at(counts.as_slice(), both.verifier.secret)?;
-    let front = both
-        .host
-        .cells
-        .as_slice()
-        .get(0..at.cells() as usize)
-        .unwrap_or(&[]);
+    let found = front(both.host.cells.as_slice(), at.cells() as usize);
     table.report.holds(
         "the ledger's counts",
-        same(front, counts.as_slice(), |count| i64::from(count)),
+        same(found, counts.as_slice(), |count| i64::from(count)),
     );
-    let front = both
-        .verifier
-        .cells
-        .as_slice()
-        .get(0..at.columns as usize)
-        .unwrap_or(&[]);
+    let found = front(both.verifier.cells.as_slice(), at.columns as usize);
     table.report.holds(
         "the columns of the ledger's counts",
-        same_elements(front, columns.as_slice()),
+        same_elements(found, columns.as_slice()),
     );
     Ok(())
 }
@@ -131,8 +122,8 @@ pub fn play<F: Field>(table: &mut Table, plan: Plan) -> Result<(), Stop> {
     let cells = plan.rows.saturating_mul(plan.columns).min(65_536);
     let cells = cells.saturating_add_signed(plan.spare);
     let width = plan.columns.min(1024).saturating_add_signed(plan.spare);
-    let counts = any_counts(table.heap, &mut table.dice, cells)?;
-    let sums = any_elements(table.heap, &mut table.dice, table.field, width)?;
+    let counts = table.any_counts(cells)?;
+    let sums = table.any_elements(width)?;
     let point = any_point(table, plan.rows);
     match Listening::<F>::open(table, plan.rows, plan.columns, point, counts, sums)? {
         Some(both) => play_on(table, plan, both),

@@ -1,5 +1,6 @@
 // A host of the product and one of the reference.
 use crate::call::Call;
+use crate::convert::plain_move;
 use crate::ends::{End, Names, Pair};
 use board::{Bank, Book, Move, Refusal};
 use field::Field;
@@ -59,7 +60,7 @@ impl<F: Field> End for Listening<F> {
     }
 
     fn told_plainly(game: Game, _secret: (), bank: &mut [i64], m: Move) -> Result<Standing, Stop> {
-        note_at_host(game.at, bank, m.cell, m.amount).map_err(Stop::from)
+        note_at_host(game.at, bank, plain_move(m)).map_err(Stop::from)
     }
 
     fn standing(&self) -> &Book {

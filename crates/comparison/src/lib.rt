@@ -41,5 +41,5 @@ pub use limits::{fill_weight, open_grid};
 pub use outcome::{Outcome, Refused};
 pub use planted::see_planted;
 pub use report::Report;
-pub use table::Table;
+pub use table::{MOD_65537, Table};
 pub use worked::play_worked;

@@ -1,11 +1,10 @@
 // Grids at their limits, and a weight at its limit.
 use crate::hosts::HostPair;
-use crate::memory::{any_counts, any_elements};
 use crate::table::Table;
 use crate::verifiers::VerifierPair;
 use board::Move;
 use field::Field;
-use reference::{Element, Stop};
+use reference::{Element, Refusal, Stop};
 
 // Whether both ends open on a grid, with banks enough for any.
 pub fn open_grid<F: Field>(
@@ -15,8 +14,8 @@ pub fn open_grid<F: Field>(
     opens: bool,
 ) -> Result<(), Stop> {
     table.report.next_game();
-    let counts = any_counts(table.heap, &mut table.dice, 520)?;
-    let sums = any_elements(table.heap, &mut table.dice, table.field, 20)?;
+    let counts = table.any_counts(520)?;
+    let sums = table.any_elements(20)?;
     let host = HostPair::<F>::open(table, rows, columns, (), counts)?;
     table
         .report
@@ -29,7 +28,7 @@ pub fn open_grid<F: Field>(
 // Moves of 256 until the weight is at the limit, and one more of each size.
 pub fn fill_weight<F: Field>(table: &mut Table) -> Result<(), Stop> {
     table.report.next_game();
-    let counts = any_counts(table.heap, &mut table.dice, 8)?;
+    let counts = table.any_counts(8)?;
     let Some(mut host) = HostPair::<F>::open(table, 1, 8, (), counts)? else {
         return Ok(());
     };
@@ -40,14 +39,16 @@ pub fn fill_weight<F: Field>(table: &mut Table) -> Result<(), Stop> {
         let told = host.note(table, Move { cell, amount: 256 })?;
         table
             .report
-            .number("a move up to the limit of weights", &told, None);
+            .number("a move up to the limit of weights", &told, Ok(()));
     }
     let _ = host.note(table, Move { cell, amount: rest })?;
     for amount in [1, -1, 256, -256] {
         let told = host.note(table, Move { cell, amount })?;
-        table
-            .report
-            .number("a move beyond the limit of weights", &told, Some(3));
+        table.report.number(
+            "a move beyond the limit of weights",
+            &told,
+            Err(Refusal::TooHeavy.number()),
+        );
     }
     host.compare_bank(table);
     Ok(())

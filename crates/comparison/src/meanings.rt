@@ -24,16 +24,16 @@ fn rule_of<F: Field, Q: Question<F>>(
 }
 
 impl<'a, F: Field, Q: Question<F>> Inquiry<'a, F, Q> {
-    // Fit, degree, limits and tag.
-    pub fn compare_meaning(&self, table: &mut Table) {
+    // Fit, degree, limits and tag; each number of the tag apart, since the number of comparisons is printed.
+    pub fn compare_meaning(&mut self) {
         let question = self.question;
         let grid = self.grid();
         let at = self.sealed.host_at;
-        let limits = self.ask.limits(table.field.limit);
+        let limits = self.ask.limits(self.table.field.limit);
         let wanted = self.ask.tag();
         let tag = question.tag();
         let fits = matches!(question.fit(grid), Fit::Fits);
-        let report = &mut table.report;
+        let report = &mut self.table.report;
         report.holds("whether a question fits", fits == self.ask.fits(at));
         report.same(
             "a degree",
@@ -55,11 +55,12 @@ impl<'a, F: Field, Q: Question<F>> Inquiry<'a, F, Q> {
         );
     }
 
-    // The rule at a point, on the columns of the counts there.
-    pub fn compare_rule(&self, table: &mut Table, point: Element) -> Result<(), AllocError> {
-        let game = table.game(self.sealed.host_at);
+    // The rule at a point, on the columns of the counts there. Its parts are held apart, since the number of comparisons is
+    // printed.
+    pub fn compare_rule(&mut self, point: Element) -> Result<(), AllocError> {
+        let game = self.table.game(self.sealed.host_at);
         let plain_columns = game.columns_at(self.sealed.plain_counts.as_slice(), point)?;
-        let columns: Vec<F> = elements(table.heap, plain_columns.as_slice())?;
+        let columns: Vec<F> = elements(self.table.heap, plain_columns.as_slice())?;
         let rule = rule_of(
             self.question,
             self.grid(),
@@ -69,10 +70,10 @@ impl<'a, F: Field, Q: Question<F>> Inquiry<'a, F, Q> {
         if let Some(value) = rule {
             let wanted = game.rule(self.ask, point, plain_columns.as_slice())?;
             let found = parts(value);
-            table
+            self.table
                 .report
                 .same("the low part of a rule", found.low, wanted.low);
-            table
+            self.table
                 .report
                 .same("the high part of a rule", found.high, wanted.high);
         }

@@ -48,16 +48,13 @@ pub fn wanted<T>(answer: Result<T, Stop>) -> Result<Outcome<T>, AllocError> {
 
 // The outcome without what was given.
 pub fn bare<T>(outcome: &Outcome<T>) -> Outcome<()> {
-    match outcome {
-        Ok(_) => Ok(()),
-        Err(refused) => Err(*refused),
-    }
+    outcome.as_ref().map(|_| ()).map_err(|refused| *refused)
 }
 
-// The number of the refusal, if it is one.
-pub fn number_of<T>(outcome: &Outcome<T>) -> Option<u64> {
-    match outcome {
-        Ok(_) => None,
-        Err(refused) => Some(refused.number),
-    }
+// The outcome without what was given, its refusal by the number alone.
+pub fn number_of<T>(outcome: &Outcome<T>) -> Result<(), u64> {
+    outcome
+        .as_ref()
+        .map(|_| ())
+        .map_err(|refused| refused.number)
 }

@@ -9,9 +9,15 @@ use reference::{Ask, Standing};
 use season::{Cell, Goods, Range, Season, Squares};
 use std::alloc::AllocError;
 
+// A range that runs backward, in both forms.
+pub const BACKWARD: Range = Range { first: 9, last: 8 };
+
+pub const BACKWARD_ASK: Ask = Ask::Range(9, 8);
+
 // A question for a board, mostly one that fits.
 pub fn any_ask(dice: &mut Dice, at: Standing) -> Ask {
     let cells = at.cells().saturating_add(dice.below(2));
+    // No table of closures for the cases here and below: most draw again from the dice.
     match dice.below(9) {
         0 | 1 => Ask::Cell(dice.below(cells)),
         2 | 3 => Ask::Goods(dice.below(9)),
@@ -34,22 +40,23 @@ pub fn any_ask(dice: &mut Dice, at: Standing) -> Ask {
     }
 }
 
-fn number(n: u64) -> u32 {
+// A number as the product has it; 0 where that has no room.
+fn narrow(n: u64) -> u32 {
     u32::try_from(n).unwrap_or(0)
 }
 
 fn cell(i: u64) -> Cell {
-    Cell { index: number(i) }
+    Cell { index: narrow(i) }
 }
 
 fn goods(g: u64) -> Goods {
-    Goods { kind: number(g) }
+    Goods { kind: narrow(g) }
 }
 
 fn range(a: u64, b: u64) -> Range {
     Range {
-        first: number(a),
-        last: number(b),
+        first: narrow(a),
+        last: narrow(b),
     }
 }
 
@@ -72,15 +79,15 @@ fn inquire_plainly<F: Field>(
     times: u64,
 ) -> Result<(), AllocError> {
     match ask {
-        Ask::Cell(i) => Inquiry::new(sealed, &cell(i), ask).inquire(table, times),
-        Ask::Goods(g) => Inquiry::new(sealed, &goods(g), ask).inquire(table, times),
-        Ask::Range(a, b) => Inquiry::new(sealed, &range(a, b), ask).inquire(table, times),
-        Ask::Squares => Inquiry::new(sealed, &Squares, ask).inquire(table, times),
+        Ask::Cell(i) => Inquiry::new(table, sealed, &cell(i), ask).inquire(times),
+        Ask::Goods(g) => Inquiry::new(table, sealed, &goods(g), ask).inquire(times),
+        Ask::Range(a, b) => Inquiry::new(table, sealed, &range(a, b), ask).inquire(times),
+        Ask::Squares => Inquiry::new(table, sealed, &Squares, ask).inquire(times),
         Ask::Stated(degree) => {
             let stated = Stated {
-                degree: number(degree),
+                degree: narrow(degree),
             };
-            Inquiry::new(sealed, &stated, ask).inquire(table, times)
+            Inquiry::new(table, sealed, &stated, ask).inquire(times)
         }
     }
 }
@@ -94,7 +101,7 @@ pub fn inquire_any<F: Field>(
 ) -> Result<(), AllocError> {
     match mixed(ask) {
         Some(season) if !table.dice.one_in(2) => {
-            Inquiry::new(sealed, &season, ask).inquire(table, times)
+            Inquiry::new(table, sealed, &season, ask).inquire(times)
         }
         _ => inquire_plainly(table, sealed, ask, times),
     }

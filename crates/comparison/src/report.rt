@@ -55,9 +55,10 @@ impl Report {
         self.same(what, u64::from(test), 1);
     }
 
-    // Holds an outcome to a refusal's number, or to none, which a difference shows as 0.
-    pub fn number<T>(&mut self, what: &'static str, found: &Outcome<T>, wanted: Option<u64>) {
-        self.same(what, number_of(found).unwrap_or(0), wanted.unwrap_or(0));
+    // Holds an outcome to one that was granted, which a difference shows as 0, or to a refusal's number.
+    pub fn number<T>(&mut self, what: &'static str, found: &Outcome<T>, wanted: Result<(), u64>) {
+        let shown = |came: Result<(), u64>| came.err().unwrap_or(0);
+        self.same(what, shown(number_of(found)), shown(wanted));
     }
 
     // Counts what a call of the product came to, and holds it to what the reference says.
@@ -95,8 +96,13 @@ impl Report {
         self.kept.as_slice()
     }
 
-    // How often a call came to a refusal's number, or to none.
-    pub fn count(&self, call: Call, number: Option<u64>) -> u64 {
-        self.outcomes[call as usize].of(number)
+    // How often a call was granted.
+    pub fn granted(&self, call: Call) -> u64 {
+        self.outcomes[call as usize].granted()
+    }
+
+    // How often a call came to a refusal's number.
+    pub fn refused(&self, call: Call, number: u64) -> u64 {
+        self.outcomes[call as usize].refused(number)
     }
 }

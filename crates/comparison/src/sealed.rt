@@ -5,6 +5,7 @@ use field::Field;
 use question::Question;
 use reference::{Answered, Element, Standing};
 
+// The table is lent beside it: in it, it would be borrowed for the rest of a game, which draws dice between questions.
 #[derive(Drop)]
 pub struct Sealed<F> {
     pub host: host::Sealed<F>,

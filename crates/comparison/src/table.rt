@@ -4,6 +4,14 @@ use crate::report::Report;
 use reference::{Arithmetic, Game, Standing};
 use std::alloc::Global;
 
+// The residues modulo 65,537, as the reference is told them.
+pub const MOD_65537: Arithmetic = Arithmetic {
+    p: 65_537,
+    e: 1,
+    w: 3,
+    limit: 256,
+};
+
 #[derive(Drop)]
 pub struct Table {
     pub heap: Global,
@@ -16,12 +24,7 @@ impl Table {
     pub fn new(heap: Global, seed: u64) -> Table {
         Table {
             heap,
-            field: Arithmetic {
-                p: 65_537,
-                e: 1,
-                w: 3,
-                limit: 256,
-            },
+            field: MOD_65537,
             dice: Dice::new(seed),
             report: Report::new(heap),
         }

@@ -1,6 +1,6 @@
 // A box of the product and one of the reference, at the same secret point.
 use crate::call::Call;
-use crate::convert::{element, parts};
+use crate::convert::{element, parts, plain_move};
 use crate::ends::{End, Names, Pair};
 use board::{Bank, Book, Move, Refusal};
 use field::Field;
@@ -65,7 +65,7 @@ impl<F: Field> End for Listening<F> {
         bank: &mut [Element],
         m: Move,
     ) -> Result<Standing, Stop> {
-        note_at_verifier(game, secret, bank, m.cell, m.amount)
+        note_at_verifier(game, secret, bank, plain_move(m))
     }
 
     fn standing(&self) -> &Book {

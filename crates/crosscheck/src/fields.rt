@@ -1,19 +1,12 @@
 // The four fields, one after the other.
 use crate::rounds::play_field;
-use comparison::Table;
+use comparison::{MOD_65537, Table};
 use extension::Extension;
 use field::BaseField;
 use prime::{Mersenne31, Mod65537};
 use reference::{Arithmetic, Stop};
 
-// Each base field, as the reference is told it: its constants in plain numbers.
-const MOD_65537: Arithmetic = Arithmetic {
-    p: 65_537,
-    e: 1,
-    w: 3,
-    limit: 256,
-};
-
+// The other base field, as the reference is told it: its constants in plain numbers.
 const MERSENNE31: Arithmetic = Arithmetic {
     p: 2_147_483_647,
     e: 1,

@@ -11,13 +11,11 @@ mod rounds;
 fn run(rt: &HostRuntime) -> anyhow::Result<()> {
     let heap = rt.alloc();
     let mut table = comparison::Table::new(heap, 20_240_917);
-    if fields::play_all(&mut table).is_err() {
-        return Err(anyhow!("no memory for a game"));
-    }
+    fields::play_all(&mut table).map_err(|_| anyhow!("no memory for a game"))?;
     prints::print_report(rt, &table.report)?;
-    let Ok((seen, planted)) = comparison::see_planted(heap) else {
-        return Err(anyhow!("no memory for a planted difference"));
-    };
+    let (seen, planted) = comparison::see_planted(heap).map_err(|_| anyhow!(
+        "no memory for a planted difference"
+    ))?;
     println!(rt; "planted differences: {planted}, reported: {seen}")?;
     if seen != planted {
         return Err(anyhow!("a planted difference was not reported"));

@@ -10,10 +10,11 @@ const NUMBERS: [u64; 19] = [
 
 // One call: how often it was granted, and how often it came to each refusal.
 fn print_call(rt: &impl Print, report: &Report, call: Call) -> io::Result<()> {
-    let granted = report.count(call, None);
+    let granted = report.granted(call);
     print!(rt; "{call}: {granted} granted")?;
+    // Not NUMBERS: a number outside the table is to be printed too.
     for number in 1..63 {
-        let count = report.count(call, Some(number));
+        let count = report.refused(call, number);
         if count > 0 {
             print!(rt; ", {number}: {count}")?;
         }
@@ -32,7 +33,7 @@ fn print_calls(rt: &impl Print, report: &Report) -> io::Result<()> {
 fn came(report: &Report, number: u64) -> bool {
     Call::ALL
         .iter()
-        .any(|call| report.count(*call, Some(number)) > 0)
+        .any(|call| report.refused(*call, number) > 0)
 }
 
 // Every refusal has to come at least once.

@@ -62,10 +62,7 @@ impl Arithmetic {
         let mut all = Element::one();
         let mut square = x;
         let mut rest = n;
-        for _ in 0..64 {
-            if rest == 0 {
-                break;
-            }
+        while rest > 0 {
             if rest % 2 == 1 {
                 all = self.product(all, square);
             }
@@ -83,10 +80,5 @@ impl Arithmetic {
             self.p.wrapping_mul(self.p)
         };
         self.power(x, q.wrapping_sub(2))
-    }
-
-    // Whether two numbers are the parts of an element.
-    pub fn has_parts(self, low: u64, high: u64) -> bool {
-        low < self.p && high < self.p && (self.e != 1 || high == 0)
     }
 }

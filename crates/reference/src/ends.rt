@@ -4,6 +4,7 @@ use crate::arithmetic::Arithmetic;
 use crate::element::Element;
 use crate::front::fill_front;
 use crate::game::Game;
+use crate::moves::Move;
 use crate::refusal::Refusal;
 use crate::standing::Standing;
 use crate::stop::Stop;
@@ -33,22 +34,17 @@ pub fn open_verifier(
 }
 
 // Tells a host a move: how it stands then, or a refusal, after which nothing has changed.
-pub fn note_at_host(
-    standing: Standing,
-    bank: &mut [i64],
-    cell: u64,
-    amount: i64,
-) -> Result<Standing, Refusal> {
+pub fn note_at_host(standing: Standing, bank: &mut [i64], m: Move) -> Result<Standing, Refusal> {
     if (bank.len() as u64) < standing.cells() {
         return Err(Refusal::BankShort);
     }
-    standing.test(cell, amount)?;
-    let count = bank.get_mut(cell as usize).ok_or(Refusal::BankShort)?;
+    standing.test(m)?;
+    let count = bank.get_mut(m.cell as usize).ok_or(Refusal::BankShort)?;
     if count.unsigned_abs() > standing.limit {
         return Err(Refusal::CountOutside);
     }
-    *count = count.wrapping_add(amount);
-    Ok(standing.after(amount))
+    *count = count.wrapping_add(m.amount);
+    Ok(standing.after(m))
 }
 
 // Tells a box a move: its column grows by the amount's image times χ_x at the point, where x is the cell's row.
@@ -56,22 +52,21 @@ pub fn note_at_verifier(
     game: Game,
     point: Element,
     bank: &mut [Element],
-    cell: u64,
-    amount: i64,
+    m: Move,
 ) -> Result<Standing, Stop> {
     if (bank.len() as u64) < game.at.columns {
         return Err(Stop::from(Refusal::BankShort));
     }
-    game.at.test(cell, amount)?;
-    let (row, column) = game.at.place(cell);
+    game.at.test(m)?;
+    let (row, column) = game.at.place(m.cell);
     let weight = game
         .basis(point)?
         .get(row)
         .copied()
         .unwrap_or(Element::zero());
-    let share = game.field.product(game.field.image(amount), weight);
+    let share = game.field.product(game.field.image(m.amount), weight);
     if let Some(sum) = bank.get_mut(column) {
         *sum = game.field.sum(*sum, share);
     }
-    Ok(game.at.after(amount))
+    Ok(game.at.after(m))
 }

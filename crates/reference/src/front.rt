@@ -2,10 +2,7 @@
 
 // Puts x into the first n cells; nothing where there are fewer.
 pub fn fill_front<T: Copy>(cells: &mut [T], n: u64, x: T) -> Option<()> {
-    // No `fill`: tried, the proof did not close, since it wants that cloning a T cannot fail, and no `Copy` type says so.
-    for cell in cells.get_mut(0..n as usize)? {
-        *cell = x;
-    }
+    cells.get_mut(0..n as usize)?.fill_with(|| x);
     Some(())
 }
 

@@ -1,4 +1,5 @@
 // The ledger: which moves count, and what they come to.
+use crate::moves::Move;
 use crate::refusal::Refusal;
 use crate::standing::Standing;
 use crate::stop::Stop;
@@ -29,11 +30,11 @@ impl Ledger {
     }
 
     // Accepts a move, or refuses it and changes nothing.
-    pub fn note(&mut self, cell: u64, amount: i64) -> Result<(), Stop> {
-        self.standing.test(cell, amount)?;
-        let count = self.count(cell).wrapping_add(amount);
-        self.counts.insert(cell, count)?;
-        self.standing = self.standing.after(amount);
+    pub fn note(&mut self, m: Move) -> Result<(), Stop> {
+        self.standing.test(m)?;
+        let count = self.count(m.cell).wrapping_add(m.amount);
+        self.counts.insert(m.cell, count)?;
+        self.standing = self.standing.after(m);
         Ok(())
     }
 

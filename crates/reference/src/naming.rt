@@ -8,6 +8,12 @@ pub struct Limits {
     pub greatest: i64,
 }
 
+impl Limits {
+    pub fn allow(self, n: i64) -> bool {
+        self.least <= n && n <= self.greatest
+    }
+}
+
 // What a sheet calls a question by.
 #[derive(Clone, Copy, PartialEq, Eq, Debug)]
 pub struct Tag {

@@ -7,23 +7,23 @@ pub struct Position {
     pub place: u64,
 }
 
-// What is wrong with a piece of a sheet.
+// What is wrong with a piece of a sheet, each with its number in the table.
 #[derive(Clone, Copy, PartialEq, Eq, Debug)]
 pub enum Fault {
     // It is neither a word nor a number.
-    Malformed,
+    Malformed = 30,
     // The grammar has another piece.
-    Unexpected,
+    Unexpected = 31,
     // It is not the number of the field, of the grid, of the tag.
-    Field,
-    Grid,
-    Tag,
+    Field = 40,
+    Grid = 41,
+    Tag = 42,
     // The claim is beyond its limits.
-    Claim,
+    Claim = 43,
     // The value line is not the next one.
-    Index,
+    Index = 44,
     // It is no part of an element.
-    Part,
+    Part = 45,
 }
 
 #[derive(Clone, Copy, PartialEq, Eq, Debug)]
@@ -48,21 +48,13 @@ pub enum Refusal {
 
 impl Fault {
     pub fn number(self) -> u64 {
-        match self {
-            Fault::Malformed => 30,
-            Fault::Unexpected => 31,
-            Fault::Field => 40,
-            Fault::Grid => 41,
-            Fault::Tag => 42,
-            Fault::Claim => 43,
-            Fault::Index => 44,
-            Fault::Part => 45,
-        }
+        self as u64
     }
 }
 
 impl Refusal {
     pub fn number(self) -> u64 {
+        // One case has fields, so the numbers cannot be discriminants.
         match self {
             Refusal::CellOutside => 1,
             Refusal::AmountOutside => 2,

@@ -30,14 +30,13 @@ impl Game {
         columns: &[Element],
     ) -> Result<Element, AllocError> {
         let basis = self.basis(point)?;
-        let mut all = Element::zero();
-        for cell in first..=last {
+        let sum = (first..=last).fold(Element::zero(), |all, cell| {
             let (x, y) = self.at.place(cell);
             let weight = basis.get(x).copied().unwrap_or(Element::zero());
             let column = columns.get(y).copied().unwrap_or(Element::zero());
-            all = self.field.sum(all, self.field.product(weight, column));
-        }
-        Ok(all)
+            self.field.sum(all, self.field.product(weight, column))
+        });
+        Ok(sum)
     }
 
     // The sum of the columns of the goods.

@@ -1,4 +1,5 @@
 // How a game stands: the grid, the limit of weights, and the weight and number of the accepted moves.
+use crate::moves::Move;
 use crate::refusal::Refusal;
 
 #[derive(Clone, Copy)]
@@ -37,23 +38,23 @@ impl Standing {
     }
 
     // The first of the refusals that a move meets.
-    pub fn test(self, cell: u64, amount: i64) -> Result<(), Refusal> {
-        if cell >= self.cells() {
+    pub fn test(self, m: Move) -> Result<(), Refusal> {
+        if m.cell >= self.cells() {
             return Err(Refusal::CellOutside);
         }
-        if amount == 0 || !matches!(amount, -256..=256) {
+        if m.amount == 0 || !matches!(m.amount, -256..=256) {
             return Err(Refusal::AmountOutside);
         }
-        if self.weight.saturating_add(amount.unsigned_abs()) > self.limit {
+        if self.weight.saturating_add(m.amount.unsigned_abs()) > self.limit {
             return Err(Refusal::TooHeavy);
         }
         Ok(())
     }
 
     // How it stands after an accepted move.
-    pub fn after(self, amount: i64) -> Standing {
+    pub fn after(self, m: Move) -> Standing {
         Standing {
-            weight: self.weight.saturating_add(amount.unsigned_abs()),
+            weight: self.weight.saturating_add(m.amount.unsigned_abs()),
             number: self.number.saturating_add(1),
             ..self
         }

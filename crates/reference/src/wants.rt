@@ -22,19 +22,13 @@ impl Want {
         if is_malformed(text) {
             return Err(Fault::Malformed);
         }
-        let (fits, kept, fault) = match self {
-            Want::Text(wanted) => (text == wanted.as_bytes(), None, Fault::Unexpected),
-            Want::Number(wanted, fault) => {
-                let value = number_value(text).ok_or(Fault::Unexpected)?;
-                (i64::try_from(wanted).ok() == Some(value), None, fault)
-            }
-            Want::Kept(limits, fault) => {
-                let value = number_value(text).ok_or(Fault::Unexpected)?;
-                let fits = limits.least <= value && value <= limits.greatest;
-                (fits, Some(value), fault)
-            }
-        };
-        if fits { Ok(kept) } else { Err(fault) }
+        match (self, number_value(text)) {
+            (Want::Text(wanted), _) if text == wanted.as_bytes() => Ok(None),
+            (Want::Number(wanted, _), Some(n)) if i64::try_from(wanted) == Ok(n) => Ok(None),
+            (Want::Kept(limits, _), Some(n)) if limits.allow(n) => Ok(Some(n)),
+            (Want::Number(_, fault) | Want::Kept(_, fault), Some(_)) => Err(fault),
+            _ => Err(Fault::Unexpected),
+        }
     }
 }
 

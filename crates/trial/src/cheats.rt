@@ -1,20 +1,11 @@
 // What becomes of a host that cheats, and of sheets that are damaged. The board is that of the game: its squares add up to 14.
+use crate::game::COUNTED;
 use crate::show::Judged;
-use board::{Bank, Move, Refusal};
+use board::{Bank, Refusal};
 use field::Field;
 use prime::Mod65537;
 use season::Squares;
 use std::io;
-
-// The moves of the game that count.
-const MOVES: [Move; 3] = [
-    Move { cell: 0, amount: 3 },
-    Move { cell: 8, amount: 1 },
-    Move {
-        cell: 9,
-        amount: -2,
-    },
-];
 
 // Claims 13 with values that add up to it, and that are the honest ones at 0 and 2.
 const FALSE_SHEET: &[u8] =
@@ -70,7 +61,7 @@ fn judged(point: u32, sheet: &[u8]) -> Result<i64, Refusal> {
     let mut tray = [Mod65537::zero(); 3];
     let secret = Mod65537::image((point % 65537) as i32);
     let mut verifier = verifier::Listening::open(2, 8, secret, &mut sums)?;
-    for m in MOVES {
+    for m in COUNTED {
         verifier.note(&mut sums, m)?;
     }
     verifier.seal().judge(&sums, &Squares, sheet, &mut tray)

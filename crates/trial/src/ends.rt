@@ -3,20 +3,16 @@ use board::{Bank, Move, Refusal};
 use prime::Mod65537;
 
 #[derive(Drop)]
-pub struct Listening<'a> {
-    pub host: host::Listening<Mod65537>,
+pub struct Ends<'a, H, V> {
+    pub host: H,
     pub counts: Bank<'a, i32>,
-    pub verifier: verifier::Listening<Mod65537>,
+    pub verifier: V,
     pub sums: Bank<'a, Mod65537>,
 }
 
-#[derive(Drop)]
-pub struct Sealed<'a> {
-    pub host: host::Sealed<Mod65537>,
-    pub counts: Bank<'a, i32>,
-    pub verifier: verifier::Sealed<Mod65537>,
-    pub sums: Bank<'a, Mod65537>,
-}
+pub type Listening<'a> = Ends<'a, host::Listening<Mod65537>, verifier::Listening<Mod65537>>;
+
+pub type Sealed<'a> = Ends<'a, host::Sealed<Mod65537>, verifier::Sealed<Mod65537>>;
 
 impl<'a> Listening<'a> {
     // Tells both a move: what the host answers, and what the box answers.
@@ -27,13 +23,13 @@ impl<'a> Listening<'a> {
     }
 
     pub fn seal(self) -> Sealed<'a> {
-        let Listening {
+        let Ends {
             host,
             counts,
             verifier,
             sums,
         } = self;
-        Sealed {
+        Ends {
             host: host.seal(),
             counts,
             verifier: verifier.seal(),

@@ -1,8 +1,7 @@
 // A game on a board of two rows and eight columns, told to both ends and sealed, with what is then asked of them.
-use crate::ends::Listening;
+use crate::ends::{Ends, Listening};
 use crate::questions;
 use crate::show::{Elements, Noted, Standing};
-use anyhow::anyhow;
 use board::{Bank, Move};
 use field::Field;
 use prime::Mod65537;
@@ -22,14 +21,18 @@ fn tell(rt: &impl Print, ends: &mut Listening<'_>, moves: &[Move]) -> io::Result
     Ok(())
 }
 
-// The moves of the game: three that count, and four that are refused.
-const MOVES: [Move; 7] = [
+// The moves of the game that count.
+pub const COUNTED: [Move; 3] = [
     Move { cell: 0, amount: 3 },
     Move { cell: 8, amount: 1 },
     Move {
         cell: 9,
         amount: -2,
     },
+];
+
+// The moves behind them, which are refused.
+const REFUSED: [Move; 4] = [
     Move {
         cell: 16,
         amount: 1,
@@ -55,19 +58,16 @@ pub fn play(rt: &impl Print) -> anyhow::Result<()> {
     let mut counts = Bank::new(&mut counts);
     let mut sums = Bank::new(&mut sums);
     println!(rt; "A game of 2 rows and 8 columns over the residues modulo 65537, secret point 5")?;
-    let Ok(host) = host::Listening::open(2, 8, &mut counts) else {
-        return Err(anyhow!("the host did not open"));
-    };
-    let Ok(verifier) = verifier::Listening::open(2, 8, Mod65537::image(5), &mut sums) else {
-        return Err(anyhow!("the box did not open"));
-    };
-    let mut ends = Listening {
+    let host = host::Listening::open(2, 8, &mut counts)?;
+    let verifier = verifier::Listening::open(2, 8, Mod65537::image(5), &mut sums)?;
+    let mut ends = Ends {
         host,
         counts,
         verifier,
         sums,
     };
-    tell(rt, &mut ends, &MOVES)?;
+    tell(rt, &mut ends, &COUNTED)?;
+    tell(rt, &mut ends, &REFUSED)?;
     let ends = ends.seal();
     println!(rt; "  host: {}", Standing(ends.host.book()))?;
     println!(rt; "  box: {}", Standing(ends.verifier.book()))?;

@@ -42,6 +42,11 @@ fn describe<F: Field, Q: Question<F>>(
     }
 }
 
+// The front of a paper, where a sheet of this length is.
+fn written(paper: &[u8], length: usize) -> &[u8] {
+    paper.get(0..length).unwrap_or(&[])
+}
+
 // Asks the host, and has the box judge its sheet.
 fn ask<Q: Question<Mod65537>>(rt: &impl Print, ends: &Sealed<'_>, question: &Q) -> io::Result<()> {
     let mut tray = [Mod65537::zero(); 11];
@@ -52,7 +57,7 @@ fn ask<Q: Question<Mod65537>>(rt: &impl Print, ends: &Sealed<'_>, question: &Q) 
     match answer {
         Ok((claim, length)) => {
             println!(rt; "    host: claim {claim}, a sheet of {length} bytes")?;
-            let sheet = paper.get(0..length).unwrap_or(&[]);
+            let sheet = written(&paper, length);
             let found = ends.verifier.judge(&ends.sums, question, sheet, &mut tray);
             println!(rt; "    box: {}", Judged(found))
         }
@@ -83,7 +88,7 @@ fn print_sheet(rt: &impl Print, ends: &Sealed<'_>) -> io::Result<()> {
     let Ok((_, length)) = answer else {
         return Ok(());
     };
-    match from_utf8(paper.get(0..length).unwrap_or(&[])) {
+    match from_utf8(written(&paper, length)) {
         Ok(text) => print!(rt; "{text}"),
         Err(_) => Ok(()),
     }

@@ -9,7 +9,7 @@ use question::Question;
 use season::Squares;
 use std::io;
 
-// The game's moves, refused ones too.
+// The moves of a trial: three that count, and two that are refused.
 const MOVES: [Move; 5] = [
     Move { cell: 0, amount: 3 },
     Move {
