@@ -55,7 +55,7 @@ impl<'a, F: Field, Q: Question<F>> Inquiry<'a, F, Q> {
         self.judge_sheet(wide.as_slice())?;
         let other = falsified(self.table, self.sealed.verifier_at, honest)?;
         let game = self.table.game(self.sealed.verifier_at);
-        let text = game.write_sheet(self.ask.tag(), &other)?;
+        let text = game.write_sheet(self.ask.tag(), other.claim, other.values.as_slice())?;
         self.judge_sheet(text.as_bytes())?;
         self.compare_writing(&other, 9216)
     }

@@ -45,7 +45,7 @@ fn holds_judgement<F: Field>(
     let values = images(table, values).to_vec(table.heap)?;
     let sheet = Sheet { claim, values };
     let game = table.game(sealed.verifier_at);
-    let text = game.write_sheet(Ask::Squares.tag(), &sheet)?;
+    let text = game.write_sheet(Ask::Squares.tag(), sheet.claim, sheet.values.as_slice())?;
     let mut inquiry = Inquiry::new(table, sealed, &Squares, Ask::Squares);
     let found = inquiry.compare_judgement(text.as_bytes(), 4)?;
     table.report.number("worked: a judgement", &found, known);

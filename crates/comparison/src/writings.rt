@@ -23,7 +23,12 @@ impl<'a, F: Field, Q: Question<F>> Inquiry<'a, F, Q> {
         let written = found(written).map(|length| length as u64);
         let tag = self.ask.tag();
         let game = self.table.game(self.sealed.host_at);
-        let laid = game.lay_sheet(tag, sheet, plain_paper.as_mut_slice());
+        let laid = game.lay_sheet(
+            tag,
+            sheet.claim,
+            sheet.values.as_slice(),
+            plain_paper.as_mut_slice(),
+        );
         let laid = wanted(laid)?;
         self.table
             .report

@@ -3,7 +3,6 @@ use crate::ask::Ask;
 use crate::element::Element;
 use crate::front::put_front;
 use crate::game::Game;
-use crate::reading::Sheet;
 use crate::refusal::Refusal;
 use crate::stop::Stop;
 
@@ -64,10 +63,9 @@ impl Game {
             values.push(self.rule(ask, point, columns.as_slice())?)?;
         }
         let claim = ask.tally(self.at, board);
-        let mut sheet = Sheet { claim, values };
-        let length = self.lay_sheet(ask.tag(), &sheet, paper)?;
-        sheet.values.extend_from_slice(columns.as_slice())?;
-        put_front(tray, sheet.values.as_slice());
+        let length = self.lay_sheet(ask.tag(), claim, values.as_slice(), paper)?;
+        values.extend_from_slice(columns.as_slice())?;
+        put_front(tray, values.as_slice());
         Ok(Answered { claim, length })
     }
 }
