@@ -1,7 +1,7 @@
 // The reader against what is due: each call reads one token or more, and refuses at the first that is wrong.
 ghost use Rattle.std.specs.Prelude.{◌≡◌, ◌<◌, List, map, ℤ, ◌≤ℤ◌, IfOk};
 ghost use Rattle.board.specs.declared.refusal.Refusal.{Refusal};
-ghost use Rattle.token.specs.Readers.{token_of, cursor_of};
+ghost use Rattle.token.specs.Readers.{token_of};
 ghost use Rattle.expect.specs.Dues.{Due.within as Within, spelled, part_below, check, step, pass};
 ghost use Rattle.expect.specs.Expectations.{due_of, verdict_of, passed_on, passed_number, passed_part};
 
@@ -57,7 +57,7 @@ fn refusal_at(found: Found<'_>, fault: Fault) -> Refusal
 
 // Reads the token that is due.
 fn expect(reader: &mut Reader<'_>, due: Due) -> Result<(), Refusal>
-    ensures { (kept : List ℤ) → passed_on kept result (cursor_of reader.new) ≡ step (due_of due) kept (cursor_of reader.old) }
+    ensures { (kept : List ℤ) → passed_on kept result reader.new ≡ step (due_of due) kept reader.old }
 {
     let found = reader.next();
     // tried: the proof did not close with `map_err`, whose closure holds the token
@@ -69,7 +69,7 @@ fn expect(reader: &mut Reader<'_>, due: Due) -> Result<(), Refusal>
 
 // Reads the tokens that are due, in order.
 pub fn pass(reader: &mut Reader<'_>, dues: &[Due]) -> Result<(), Refusal>
-    ensures { (kept : List ℤ) → passed_on kept result (cursor_of reader.new) ≡ pass (map due_of dues.now) kept (cursor_of reader.old) }
+    ensures { (kept : List ℤ) → passed_on kept result reader.new ≡ pass (map due_of dues.now) kept reader.old }
 {
     for due in dues {
         expect(reader, *due)?;
@@ -84,7 +84,7 @@ pub fn number(
     greatest: i64,
     fault: Fault,
 ) -> Result<i64, Refusal>
-    ensures read { (kept : List ℤ) → passed_number kept result (cursor_of reader.new) ≡ step (Within least greatest fault) kept (cursor_of reader.old) }
+    ensures read { (kept : List ℤ) → passed_number kept result reader.new ≡ step (Within least greatest fault) kept reader.old }
     ensures least { IfOk result (λ z. least ≤ℤ z) }
     ensures greatest { IfOk result (λ z. z ≤ℤ greatest) }
 {
@@ -99,7 +99,7 @@ pub fn number(
 
 // Reads a part below `limit`.
 pub fn part(reader: &mut Reader<'_>, limit: u32) -> Result<u32, Refusal>
-    ensures read { (kept : List ℤ) → passed_part kept result (cursor_of reader.new) ≡ step (part_below limit) kept (cursor_of reader.old) }
+    ensures read { (kept : List ℤ) → passed_part kept result reader.new ≡ step (part_below limit) kept reader.old }
     ensures below { IfOk result (λ n. n < limit) }
 {
     let n = number(reader, 0, i64::from(limit) - 1, Fault::Part)?;

@@ -1,6 +1,5 @@
 // The lines of a sheet, read in order.
 ghost use Rattle.std.specs.Prelude.{◌≡◌, ◌<◌, List, ℤ, IfOk};
-ghost use Rattle.token.specs.Readers.{cursor_of};
 ghost use Rattle.expect.specs.Dues.{pass};
 ghost use Rattle.sheet.specs.Readings.{high_limit, value_line, claim_due, ending};
 ghost use Rattle.expect.specs.Expectations.{passed_on, passed_number, passed_parts};
@@ -24,7 +23,7 @@ fn high_limit<F: Field>() -> u32
 
 // Reads the sheet's line and the claim's line.
 pub(crate) fn claim_lines<F: Field>(reader: &mut Reader<'_>, terms: &Terms) -> Result<i64, Refusal>
-    ensures { (kept : List ℤ) → passed_number kept result (cursor_of reader.new) ≡ pass (claim_due F.Field.model.characteristic F.Field.model.degree terms.now) kept (cursor_of reader.old) }
+    ensures { (kept : List ℤ) → passed_number kept result reader.new ≡ pass (claim_due F.Field.model.characteristic F.Field.model.degree terms.now) kept reader.old }
 {
     pass(
         reader,
@@ -56,7 +55,7 @@ pub(crate) fn claim_lines<F: Field>(reader: &mut Reader<'_>, terms: &Terms) -> R
 
 // Reads the parts of value line j.
 pub(crate) fn value_line<F: Field>(reader: &mut Reader<'_>, j: u32) -> Result<(u32, u32), Refusal>
-    ensures read { (kept : List ℤ) → passed_parts kept result (cursor_of reader.new) ≡ pass (value_line F.Field.model.characteristic F.Field.model.degree j) kept (cursor_of reader.old) }
+    ensures read { (kept : List ℤ) → passed_parts kept result reader.new ≡ pass (value_line F.Field.model.characteristic F.Field.model.degree j) kept reader.old }
     ensures low { IfOk result (λ parts. parts.0 < F.Field.model.characteristic) }
     ensures high { IfOk result (λ parts. parts.1 < F.Field.model.characteristic) }
     ensures only { IfOk result (λ parts. (F.Field.model.degree ≡ 1 → parts.1 ≡ 0)) }
@@ -78,7 +77,7 @@ pub(crate) fn value_line<F: Field>(reader: &mut Reader<'_>, j: u32) -> Result<(u
 
 // Reads the last line, and nothing but spaces after it.
 pub(crate) fn last_line(reader: &mut Reader<'_>) -> Result<(), Refusal>
-    ensures { (kept : List ℤ) → passed_on kept result (cursor_of reader.new) ≡ pass ending kept (cursor_of reader.old) }
+    ensures { (kept : List ℤ) → passed_on kept result reader.new ≡ pass ending kept reader.old }
 {
     pass(
         reader,

@@ -2,7 +2,7 @@
 use Rattle.std.specs.Prelude.{drop}
 use Rattle.token.specs.declared.token.Token.{Token}
 use Rattle.token.specs.declared.token.Token.TheVariants.{Open, Close, LineEnd, End, Word, Number, Malformed}
-use Rattle.token.specs.declared.token.Reader.{Reader}
+use Rattle.token.specs.declared.token.Reader.TheInside.{Inside}
 use Rattle.token.specs.Tokens as tokens
 use Rattle.token.specs.Tokens.{Cursor}
 
@@ -17,5 +17,5 @@ token_of (Number bs z) = tokens.Token.number bs.now z
 token_of (Malformed bs) = tokens.Token.malformed bs.now
 
 -- where a reader is: the bytes from its cursor on, its line and its place
-abbrev pub cursor_of : Reader → Cursor
+abbrev pub cursor_of : Inside → Cursor
 cursor_of r = record { rest = drop r.cursor r.sheet.now; line = r.line; place = r.cursor }

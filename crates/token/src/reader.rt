@@ -1,7 +1,7 @@
 // The reader: one token after another, each with its line and place.
 ghost use Rattle.std.specs.Prelude.{◌≡◌};
 ghost use Rattle.token.specs.Tokens.{classed, token_at, width, line_ends, skip_spaces, next_token, after_token, cursor_start};
-ghost use Rattle.token.specs.Readers.{token_of, cursor_of};
+ghost use Rattle.token.specs.Readers.{token_of};
 
 use crate::run::{is_word, leading_spaces, number_of, run_length};
 use crate::token::{Found, Reader, Token};
@@ -58,7 +58,7 @@ impl Token<'_> {
 impl<'a> Reader<'a> {
     // A reader before the first byte of a sheet.
     pub fn new(sheet: &'a [u8]) -> Reader<'a>
-        ensures { cursor_of result ≡ cursor_start sheet.now }
+        ensures { result ≡ cursor_start sheet.now }
     {
         Reader {
             sheet,
@@ -69,10 +69,10 @@ impl<'a> Reader<'a> {
 
     // Goes past the spaces and the token behind them, and tells where that token begins.
     pub fn next(&mut self) -> Found<'a>
-        ensures token { token_of result.token ≡ next_token (cursor_of self.old) }
-        ensures line { result.line ≡ (skip_spaces (cursor_of self.old)).line }
-        ensures place { result.place ≡ (skip_spaces (cursor_of self.old)).place }
-        ensures after { cursor_of self.new ≡ after_token (cursor_of self.old) }
+        ensures token { token_of result.token ≡ next_token self.old }
+        ensures line { result.line ≡ (skip_spaces self.old).line }
+        ensures place { result.place ≡ (skip_spaces self.old).place }
+        ensures after { self.new ≡ after_token self.old }
     {
         let rest = &self.sheet[self.cursor..];
         let skipped = leading_spaces(rest);

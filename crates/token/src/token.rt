@@ -1,5 +1,6 @@
 // What stands in a sheet, and the reader that goes over it.
-ghost use Rattle.std.specs.Prelude.{◌+◌, ◌≤◌, length};
+
+use std::marker::Model;
 
 // What stands at a place of the sheet: a token, a run that is none, or the end. A run is part of the sheet.
 #[derive(Clone, Copy, PartialEq, Eq, Debug)]
@@ -30,6 +31,18 @@ pub struct Reader<'a> {
     pub(crate) sheet: &'a [u8],
     pub(crate) cursor: usize,
     pub(crate) line: usize,
-    ghost inside: { cursor ≤ length sheet.now },
-    ghost counted: { line ≤ cursor + 1 },
+}
+
+// To its callers a reader is where it is: the bytes that are left, the line, and the place.
+impl<'a> Model for Reader<'a> {
+    ghost use Rattle.std.specs.Prelude.{◌+◌, ◌≤◌, length};
+    ghost use Rattle.token.specs.Tokens.{Cursor};
+
+    ghost Value = { Cursor };
+
+    ghost use Rattle.token.specs.Readers.{cursor_of};
+
+    ghost view = { cursor_of };
+
+    ghost invariant = { λ r. (r.cursor ≤ length r.sheet.now) × (r.line ≤ r.cursor + 1) };
 }

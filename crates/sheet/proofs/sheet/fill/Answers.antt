@@ -1,7 +1,6 @@
 use Rattle.std.proofs.Common.{subst, ◌+◌, length-take-le, length-set, set, get_or, add-one, suc, [], ◌∷◌, Ok, sym, refl, ap, ◌∙◌, arith, w64, SFits, to_z, of_z, rules}
 use Rattle.std.proofs.lemmas.Result.{err_from_is_err_and}
 use Rattle.std.proofs.lemmas.Int.{to_z-of_z}
-use Rattle.token.specs.Readers.{cursor_of}
 use Rattle.expect.specs.Dues.{pass}
 use Rattle.sheet.specs.Readings.{claim_due, claim_of, Filled}
 use Rattle.sheet.proofs.Fills.{flat, none_read, one_read, line_stops, ending_stops, all_read, all_values, claim_stops, fault_left, values_left}
@@ -18,8 +17,8 @@ returns-in_err-claim g c =
 pub loop-j-init : goal.loop-j-init
 loop-j-init g c =
     let f : SFits w64 c.in_ok-claim.claim = search rules in
-    none_read g.F.Field.model c.args.terms.now c.args.sheet.now (suc c.args.terms.now.degree) (to_z w64 (of_z w64 c.in_ok-claim.claim)) refl (cursor_of c.claim_lines.new.reader)
-    (ap (λ z. Ok (z ∷ [], cursor_of c.claim_lines.new.reader)) (to_z-of_z w64 c.in_ok-claim.claim f)
+    none_read g.F.Field.model c.args.terms.now c.args.sheet.now (suc c.args.terms.now.degree) (to_z w64 (of_z w64 c.in_ok-claim.claim)) refl c.claim_lines.new.reader
+    (ap (λ z. Ok (z ∷ [], c.claim_lines.new.reader)) (to_z-of_z w64 c.in_ok-claim.claim f)
     ∙ c.in_ok-claim.ensures []
     ∙ ap (pass (claim_due g.F.Field.model.characteristic g.F.Field.model.degree c.args.terms.now) []) c.new-reader.ensures)
     _
@@ -31,7 +30,7 @@ returns-in_err-low g c =
     let long = length-take-le (c.args.terms.now.degree + 1) c.args.tray.now (omega arith) in
     let f = c.loop-j.invariant in
     let kept = to_z w64 (of_z w64 c.in_ok-claim.claim) ∷ flat f.parts in
-    let e = line_stops F c.args.terms.now c.args.sheet.now (suc c.args.terms.now.degree) _ c.loop-j.j (omega arith) (cursor_of c.loop-j.reader) c.loop-j.values f _
+    let e = line_stops F c.args.terms.now c.args.sheet.now (suc c.args.terms.now.degree) _ c.loop-j.j (omega arith) c.loop-j.reader c.loop-j.values f _
     (c.in_err-low.ensures.read kept) in
     rw (p.1, p.2) (record {
       answer = ap (claim_of F) (sym e);
@@ -44,8 +43,8 @@ loop-j-preserved g c =
     let long = length-take-le (c.args.terms.now.degree + 1) c.args.tray.now (omega arith) in
     let f = c.loop-j.invariant in
     let kept = to_z w64 (of_z w64 c.in_ok-claim.claim) ∷ flat f.parts in
-    one_read g.F.Field.model c.args.terms.now c.args.sheet.now (suc c.args.terms.now.degree) _ c.loop-j.j (omega arith) (cursor_of c.loop-j.reader) c.loop-j.values f
-    c.in_ok-low.low c.in_ok-low.high c.of_parts.result (cursor_of c.value_line.new.reader) (omega arith) c.of_parts.ensures
+    one_read g.F.Field.model c.args.terms.now c.args.sheet.now (suc c.args.terms.now.degree) _ c.loop-j.j (omega arith) c.loop-j.reader c.loop-j.values f
+    c.in_ok-low.low c.in_ok-low.high c.of_parts.result c.value_line.new.reader (omega arith) c.of_parts.ensures
     (c.in_ok-low.ensures.read kept)
 
 pub returns-in_err-last_line : goal.returns-in_err-last_line
@@ -54,7 +53,7 @@ returns-in_err-last_line g c =
     let p = err_from_is_err_and c.from_residual-in_err-last_line.result c.from_residual-in_err-last_line.ensures.1 in
     let long = length-take-le (c.args.terms.now.degree + 1) c.args.tray.now (omega arith) in
     let f = c.loop-j.invariant in
-    let e = ending_stops F c.args.terms.now c.args.sheet.now (suc c.args.terms.now.degree) _ c.loop-j.j (omega arith) (cursor_of c.loop-j.reader) c.loop-j.values f _ (c.in_err-last_line.ensures _) in
+    let e = ending_stops F c.args.terms.now c.args.sheet.now (suc c.args.terms.now.degree) _ c.loop-j.j (omega arith) c.loop-j.reader c.loop-j.values f _ (c.in_err-last_line.ensures _) in
     rw (p.1, p.2) (record { answer = ap (claim_of F) (sym e); tray = fault_left F c.args.terms.now c.args.sheet.now (c.args.terms.now.degree + 1) (suc c.args.terms.now.degree) (add-one c.args.terms.now.degree) c.args.tray.now c.loop-j.values (omega arith) _ e })
 
 pub returns : goal.returns
@@ -62,9 +61,9 @@ returns g c =
     let F = g.F.Field.model in
     let long = length-take-le (c.args.terms.now.degree + 1) c.args.tray.now (omega arith) in
     let f = c.loop-j.invariant in
-    let e = all_read F c.args.terms.now c.args.sheet.now (suc c.args.terms.now.degree) _ c.loop-j.j (omega arith) (cursor_of c.loop-j.reader) c.loop-j.values f (cursor_of c.last_line.new.reader) (c.in_ok-last_line.ensures _) in
+    let e = all_read F c.args.terms.now c.args.sheet.now (suc c.args.terms.now.degree) _ c.loop-j.j (omega arith) c.loop-j.reader c.loop-j.values f c.last_line.new.reader (c.in_ok-last_line.ensures _) in
     record {
       answer = ap (claim_of F) (sym e);
       tray = values_left F c.args.terms.now c.args.sheet.now (c.args.terms.now.degree + 1) (suc c.args.terms.now.degree) (add-one c.args.terms.now.degree) c.args.tray.now c.loop-j.values (omega arith) _ _ e
-          (all_values F c.args.terms.now c.args.sheet.now (suc c.args.terms.now.degree) _ c.loop-j.j (omega arith) (cursor_of c.loop-j.reader) c.loop-j.values f (omega arith));
+          (all_values F c.args.terms.now c.args.sheet.now (suc c.args.terms.now.degree) _ c.loop-j.j (omega arith) c.loop-j.reader c.loop-j.values f (omega arith));
     }

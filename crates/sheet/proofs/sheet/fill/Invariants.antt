@@ -1,7 +1,6 @@
 use Rattle.std.proofs.Common.{suc}
-use Rattle.token.specs.Readers.{cursor_of}
 use Rattle.sheet.proofs.Fills.{Reached}
 use Rattle.sheet.proofs.sheet.fill.Given as goal
 
 abbrev pub invariant-loop-j : goal.invariant-loop-j
-invariant-loop-j g l = Reached g.F.Field.model l.terms l.sheet (suc l.terms.degree) l.j l.claim (cursor_of l.reader) l.values
+invariant-loop-j g l = Reached g.F.Field.model l.terms l.sheet (suc l.terms.degree) l.j l.claim l.reader l.values
