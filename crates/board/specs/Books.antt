@@ -1,6 +1,6 @@
 -- What an end keeps of its grid and of the moves that it accepted, and what opening an end answers. Assumes nothing.
 use Rattle.std.specs.Prelude.{◌≡◌, ℕ, suc, ◌+◌, cond, List, Ok, Err, Result, unsigned_abs}
-use Rattle.board.specs.declared.game.Book.{Book}
+use Rattle.board.specs.declared.game.Book.TheInside.{Inside}
 use Rattle.board.specs.declared.game.Grid.{Grid}
 use Rattle.board.specs.declared.game.Move.{Move}
 use Rattle.board.specs.declared.refusal.Refusal.{Refusal}
@@ -8,16 +8,10 @@ use Rattle.board.specs.declared.refusal.Refusal.TheVariants.{GridOutside}
 use Rattle.board.specs.Banks.{room_for, filled, kept_or}
 use Rattle.board.specs.Grids.{grid_allowed}
 use Rattle.board.specs.Ledger.{Ledger, move_answer}
-
--- where an end stands: its grid, and the weight and the number of its accepted moves
-pub record Standing : Type 0 where
-  pub rows : ℕ
-  pub columns : ℕ
-  pub weight : ℕ
-  pub number : ℕ
+use Rattle.board.specs.Standing.{Standing}
 
 -- where a book stands
-abbrev pub standing : Book → Standing
+abbrev pub standing : Inside → Standing
 standing b = record { rows = b.grid.rows; columns = b.grid.columns; weight = b.weight; number = b.number }
 
 -- a new game

@@ -2,5 +2,6 @@ pub mod Refusals
 pub mod Grids
 pub mod Ledger
 pub mod Banks
+pub mod Standing
 pub mod Books
 pub mod Words

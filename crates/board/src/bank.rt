@@ -10,7 +10,7 @@ pub struct Bank<'a, T> {
     cells: &'a mut [T],
 }
 
-// Puts x into the first n cells of a slice.
+// Puts x into the first n cells of a slice. It takes n, and not a part of the slice, as its callers' contracts speak of the whole.
 pub fn fill_cells<T: Copy>(cells: &mut [T], n: usize, x: T)
     requires { n ≤ length cells.old }
     ensures { cells.new ≡ filled n x cells.old }
@@ -21,6 +21,7 @@ pub fn fill_cells<T: Copy>(cells: &mut [T], n: usize, x: T)
 impl<'a, T: Copy> Bank<'a, T> {
     pub fn new(cells: &'a mut [T]) -> Self
         ensures cells { result.cells.now ≡ cells.old }
+        // by itself: no cells are written here, so there is nothing to be `Rewritten`
         ensures lender { result.cells.ghost_name ≡ cells.entry.ghost_name }
     {
         Bank { cells }

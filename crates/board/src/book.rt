@@ -1,7 +1,7 @@
 // The book of an end: its grid, and the weight and number of the moves that it accepted.
 ghost use Rattle.std.specs.Prelude.{◌≡◌};
 ghost use Rattle.board.specs.Banks.{kept_or};
-ghost use Rattle.board.specs.Books.{standing, new_standing, entered, book_answer};
+ghost use Rattle.board.specs.Books.{new_standing, entered, book_answer};
 
 use crate::game::{Book, Grid, Move};
 use crate::refusal::Refusal;
@@ -9,7 +9,7 @@ use crate::refusal::Refusal;
 impl Book {
     // The book of a new game.
     pub fn new(grid: Grid) -> Book
-        ensures { (standing result ≡ new_standing grid.rows grid.columns) × (result.grid ≡ grid) }
+        ensures { result ≡ new_standing grid.rows grid.columns }
     {
         Book {
             grid,
@@ -20,7 +20,7 @@ impl Book {
 
     // The first refusal that applies to a move, at this limit of weights; nothing changes.
     pub fn answer(&self, limit: u32, m: Move) -> Result<(), Refusal>
-        ensures { result ≡ book_answer limit (standing self.now) m }
+        ensures { result ≡ book_answer limit self.now m }
     {
         if m.cell >= u64::from(self.grid.cells()) {
             return Err(Refusal::CellOutside);
@@ -37,9 +37,8 @@ impl Book {
 
     // Enters a move where no refusal applies; a refused move changes nothing.
     pub fn accept(&mut self, limit: u32, m: Move) -> Result<(), Refusal>
-        ensures answer { result ≡ book_answer limit (standing self.old) m }
-        ensures book { standing self.new ≡ kept_or result (standing self.old) (entered (standing self.old) m) }
-        ensures grid { self.new.grid ≡ self.old.grid }
+        ensures answer { result ≡ book_answer limit self.old m }
+        ensures book { self.new ≡ kept_or result self.old (entered self.old m) }
     {
         self.answer(limit, m)?;
         self.weight += m.amount.unsigned_abs() as u32;

@@ -1,6 +1,8 @@
 // Grids, moves, and what an end keeps of the moves that it accepted.
 ghost use Rattle.std.specs.Prelude.{◌≡◌, ◌%◌, ◌≤◌};
 
+use std::marker::Model;
+
 // A board of cells in rows and columns. Cell i lies in row i div columns and column i mod columns.
 #[derive(Clone, Copy, Debug, PartialEq, Eq)]
 pub struct Grid {
@@ -21,10 +23,23 @@ pub struct Move {
 }
 
 // What an end keeps of its game: the grid, the weight of the accepted moves, and their number.
-#[derive(Debug, PartialEq, Eq, Drop)]
+#[derive(Debug, Drop)]
 pub struct Book {
     pub(crate) grid: Grid,
     pub(crate) weight: u32,
     pub(crate) number: u32,
-    ghost fewer: { number ≤ weight },
+}
+
+// To its callers a book is where it stands.
+impl Model for Book {
+    ghost use Rattle.std.specs.Prelude.{◌≤◌};
+    ghost use Rattle.board.specs.Standing.{Standing};
+
+    ghost Value = { Standing };
+
+    ghost use Rattle.board.specs.Books.{standing};
+
+    ghost view = { standing };
+
+    ghost invariant = { λ b. b.number ≤ b.weight };
 }

@@ -19,7 +19,7 @@ impl Grid {
 
 impl Book {
     pub fn grid(&self) -> Grid
-        ensures { result ≡ self.now.grid }
+        ensures { (result.rows ≡ self.now.rows) × (result.columns ≡ self.now.columns) }
     {
         self.grid
     }

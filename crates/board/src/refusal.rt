@@ -41,7 +41,7 @@ pub enum Refusal {
     TrayShort,
     // The paper has too few bytes.
     PaperShort,
-    // The sheet has a fault, at a line (from 1) and a byte place (from 0).
+    // The sheet has a fault, at a line (from 1) and a byte place (from 0): two fields and no type, since who shows a refusal takes them apart.
     Sheet {
         fault: Fault,
         line: usize,

@@ -4,7 +4,8 @@ use Rattle.board.specs.declared.game.Move.{Move}
 use Rattle.board.specs.declared.refusal.Refusal.{Refusal}
 use Rattle.board.specs.declared.refusal.Refusal.TheVariants.{BankShort, CountOutside}
 use Rattle.board.specs.Banks.{kept_or}
-use Rattle.board.specs.Books.{Standing, entered, book_answer, open_answer, open_bank}
+use Rattle.board.specs.Books.{entered, book_answer, open_answer, open_bank}
+use Rattle.board.specs.Standing.{Standing}
 use Rattle.board.specs.Ledger.{added_count}
 
 -- open on h rows and v columns: a cell of the bank for each cell of the board

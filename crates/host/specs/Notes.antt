@@ -2,7 +2,8 @@
 use Rattle.std.specs.Prelude.{◌≡◌, ℕ, ◌*◌, List, [], ◌∷◌, take, drop, ℤ, Ok, Result}
 use Rattle.board.specs.declared.game.Move.{Move}
 use Rattle.board.specs.declared.refusal.Refusal.{Refusal}
-use Rattle.board.specs.Books.{Standing, new_standing, ledger_standing}
+use Rattle.board.specs.Books.{new_standing, ledger_standing}
+use Rattle.board.specs.Standing.{Standing}
 use Rattle.board.specs.Ledger.{ledger, ledger_answers}
 use Rattle.host.specs.Calls.{host_open_answer, host_open_bank, host_note_answer, host_note_standing, host_note_bank}
 

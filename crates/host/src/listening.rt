@@ -2,7 +2,7 @@
 ghost use Rattle.std.specs.Prelude.{◌≡◌, ◌<◌, ◌≤◌, length, Ok, unsigned_abs};
 ghost use Rattle.board.specs.Banks.{kept_or, Rewritten};
 ghost use Rattle.board.specs.Ledger.{added_count};
-ghost use Rattle.board.specs.Books.{granted, standing};
+ghost use Rattle.board.specs.Books.{granted};
 ghost use Rattle.host.specs.Calls.{host_open_answer, host_open_bank, count_answer, host_note_answer, host_note_standing, host_note_bank};
 ghost use Rattle.host.specs.Granted.{Opened};
 
@@ -44,9 +44,9 @@ impl<F: Field> Listening<F> {
 
     // Counts a move, or refuses it and changes nothing.
     pub fn note(&mut self, bank: &mut Bank<'_, i32>, m: Move) -> Result<(), Refusal>
-        ensures answer { result ≡ host_note_answer F.Field.model.limit (standing self.old.book) bank.old.cells.now m }
-        ensures standing { standing self.new.book ≡ host_note_standing F.Field.model.limit (standing self.old.book) bank.old.cells.now m }
-        ensures bank { Rewritten bank.old.cells bank.new.cells (host_note_bank F.Field.model.limit (standing self.old.book) bank.old.cells.now m) }
+        ensures answer { result ≡ host_note_answer F.Field.model.limit self.old.book bank.old.cells.now m }
+        ensures standing { self.new.book ≡ host_note_standing F.Field.model.limit self.old.book bank.old.cells.now m }
+        ensures bank { Rewritten bank.old.cells bank.new.cells (host_note_bank F.Field.model.limit self.old.book bank.old.cells.now m) }
     {
         let limit = F::limit();
         if bank.len() < self.book.grid().cells() as usize {

@@ -1,6 +1,5 @@
 // A host that is sealed: answer.
 ghost use Rattle.std.specs.Prelude.{◌≡◌};
-ghost use Rattle.board.specs.Books.{standing};
 ghost use Rattle.host.specs.Answering.{answered};
 
 use crate::answering::answer_counts;
@@ -26,7 +25,7 @@ impl<F: Field> Sealed<F> {
         tray: &mut [F],
         paper: &mut [u8],
     ) -> Result<(i64, usize), Refusal>
-        ensures { record { answer = result; tray = tray.new; paper = paper.new } ≡ answered F.Field.model (standing self.now.book).rows (standing self.now.book).columns bank.now.cells.now (Q.Question.meaning question.now) tray.old paper.old }
+        ensures { record { answer = result; tray = tray.new; paper = paper.new } ≡ answered F.Field.model self.now.book.rows self.now.book.columns bank.now.cells.now (Q.Question.meaning question.now) tray.old paper.old }
     {
         answer_counts(self.book.grid(), bank.cells(), question, tray, paper)
     }

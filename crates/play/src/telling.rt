@@ -8,7 +8,8 @@ use board::{Bank, Move};
 use field::Field;
 
 // Tells a host moves, refused ones too. The loop for a box is a twin. One loop for both would need a trait with a type of cells, the state of an end
-// and what a note makes of it, and an impl for each end: no plainer than two loops of one line.
+// and what a note makes of it, and an impl for each end: no plainer than two loops of one line. The lender's clause stands by itself here and in a
+// trial, as the cells are part of the state.
 pub(crate) fn tell_host<F: Field>(
     host: &mut host::Listening<F>,
     bank: &mut Bank<'_, i32>,

@@ -3,7 +3,7 @@ use Rattle.std.specs.Prelude.{ℕ, List, [], ◌∷◌, ◌++◌, Ok, Err, Resul
 use Rattle.std.proofs.Math.Option.{Option, none, some}
 use Rattle.board.specs.declared.game.Move.{Move}
 use Rattle.board.specs.declared.refusal.Refusal.{Refusal}
-use Rattle.board.specs.Books.{Standing}
+use Rattle.board.specs.Standing.{Standing}
 
 -- an end, by its calls: O is what an open takes, X an end with its bank, Q what a sealed end is asked, A what it replies
 pub record End (O X Q A : Type 0) : Type 0 where

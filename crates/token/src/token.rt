@@ -17,7 +17,7 @@ pub enum Token<'a> {
     End,
 }
 
-// A token with the line (from 1) and the byte place (from 0) of its first byte.
+// A token with the line (from 1) and the byte place (from 0) of its first byte: two fields and no type, as in a refusal.
 #[derive(Clone, Copy, PartialEq, Eq, Debug)]
 pub struct Found<'a> {
     pub token: Token<'a>,

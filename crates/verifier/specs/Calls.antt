@@ -4,7 +4,8 @@ use Rattle.board.specs.declared.game.Move.{Move}
 use Rattle.board.specs.declared.refusal.Refusal.{Refusal}
 use Rattle.board.specs.declared.refusal.Refusal.TheVariants.{BankShort}
 use Rattle.board.specs.Banks.{kept_or}
-use Rattle.board.specs.Books.{Standing, entered, book_answer, open_answer, open_bank}
+use Rattle.board.specs.Books.{entered, book_answer, open_answer, open_bank}
+use Rattle.board.specs.Standing.{Standing}
 use Rattle.board.specs.Grids.{row_of, column_of}
 use Rattle.field.specs.Field.{FieldModel}
 use Rattle.polynomial.specs.Interpolation.{chi}

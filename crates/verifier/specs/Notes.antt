@@ -2,7 +2,8 @@
 use Rattle.std.specs.Prelude.{◌≡◌, ℕ, List, [], ◌∷◌, take, drop, Ok, Result}
 use Rattle.board.specs.declared.game.Move.{Move}
 use Rattle.board.specs.declared.refusal.Refusal.{Refusal}
-use Rattle.board.specs.Books.{Standing, new_standing, ledger_standing}
+use Rattle.board.specs.Books.{new_standing, ledger_standing}
+use Rattle.board.specs.Standing.{Standing}
 use Rattle.board.specs.Ledger.{ledger, ledger_answers}
 use Rattle.field.specs.Field.{FieldModel}
 use Rattle.polynomial.specs.Columns.{columns}

@@ -1,7 +1,7 @@
 // A box that listens: open, note, seal.
 ghost use Rattle.std.specs.Prelude.{◌≡◌, ◌*◌, ◌<◌, ◌≤◌, length, Ok, unsigned_abs};
 ghost use Rattle.board.specs.Banks.{Rewritten};
-ghost use Rattle.board.specs.Books.{granted, standing};
+ghost use Rattle.board.specs.Books.{granted};
 ghost use Rattle.verifier.specs.Calls.{verifier_open_answer, verifier_open_bank, added_column, verifier_note_answer, verifier_note_standing, verifier_note_bank};
 ghost use Rattle.verifier.specs.Granted.{Opened};
 
@@ -47,10 +47,10 @@ impl<F: Field> Listening<F> {
 
     // Adds a move to its column, or refuses it and changes nothing.
     pub fn note(&mut self, bank: &mut Bank<'_, F>, m: Move) -> Result<(), Refusal>
-        ensures answer { result ≡ verifier_note_answer F.Field.model (standing self.old.book) bank.old.cells.now m }
-        ensures standing { standing self.new.book ≡ verifier_note_standing F.Field.model (standing self.old.book) bank.old.cells.now m }
+        ensures answer { result ≡ verifier_note_answer F.Field.model self.old.book bank.old.cells.now m }
+        ensures standing { self.new.book ≡ verifier_note_standing F.Field.model self.old.book bank.old.cells.now m }
         ensures point { self.new.point ≡ self.old.point }
-        ensures bank { Rewritten bank.old.cells bank.new.cells (verifier_note_bank F.Field.model (standing self.old.book) self.old.point bank.old.cells.now m) }
+        ensures bank { Rewritten bank.old.cells bank.new.cells (verifier_note_bank F.Field.model self.old.book self.old.point bank.old.cells.now m) }
     {
         let grid = self.book.grid();
         if bank.len() < grid.columns() as usize {

@@ -1,6 +1,5 @@
 // A box that is sealed: judge.
 ghost use Rattle.std.specs.Prelude.{◌≡◌};
-ghost use Rattle.board.specs.Books.{standing};
 ghost use Rattle.verifier.specs.Judging.{judged};
 
 use crate::end::Sealed;
@@ -25,7 +24,7 @@ impl<F: Field> Sealed<F> {
         sheet: &[u8],
         tray: &mut [F],
     ) -> Result<i64, Refusal>
-        ensures { record { answer = result; tray = tray.new } ≡ judged F.Field.model (standing self.now.book).rows (standing self.now.book).columns self.now.point bank.now.cells.now (Q.Question.meaning question.now) sheet.now tray.old }
+        ensures { record { answer = result; tray = tray.new } ≡ judged F.Field.model self.now.book.rows self.now.book.columns self.now.point bank.now.cells.now (Q.Question.meaning question.now) sheet.now tray.old }
     {
         judge_cells(
             self.book.grid(),
