@@ -19,6 +19,7 @@ pub use refusal::{Fault, Refusal};
 pub use tag::Tag;
 
 // A ledger fed the accepted moves alone stands as one fed all moves.
+#[tactic(auto, using(crate::proofs::Traces::no_trace))]
 pub fn refused_moves_leave_no_trace()
     ensures { NoTrace }
 {}

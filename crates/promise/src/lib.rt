@@ -24,26 +24,31 @@ pub fn every_list_has_one_run<F: Field>()
 {}
 
 // On every allowed grid, for all moves and at every point, both ends have a run that ends sealed.
+#[tactic(auto, using(crate::proofs::Adequacy::sealed_runs))]
 pub fn sealed_runs_exist<F: Field>()
     ensures { SealedRuns F.Field.model }
 {}
 
 // Whether a box is opened does not depend on its point.
+#[tactic(auto, using(crate::proofs::Adequacy::granted_anywhere))]
 pub fn grant_independent_of_point<F: Field>()
     ensures { GrantedAnywhere F.Field.model }
 {}
 
 // The sheets that the bound counts are those with a false claim.
+#[tactic(auto, using(crate::proofs::Tests::tests_false_claims))]
 pub fn false_claims_are_tested<F: Field>()
     ensures { TestsFalseClaims F.Field.model }
 {}
 
 // On one row no false claim is accepted at any point.
+#[tactic(auto, using(crate::proofs::OneRow::none_on_one_row))]
 pub fn no_false_claim_on_one_row<F: Field>()
     ensures { NoneOnOneRow F.Field.model }
 {}
 
 // On a worked board the bound is reached: a sheet with a false claim and the bound 2 is accepted at two points.
+#[tactic(auto, using(crate::proofs::WorkedBoard::bound_reached))]
 pub fn bound_is_reached()
     ensures { BoundReached }
 {}
