@@ -1,4 +1,5 @@
 pub mod Fills
+pub mod Fronts
 pub mod Ledgers
 pub mod Opens
 pub mod Traces

@@ -1,7 +1,8 @@
 // A bank: a row of cells over memory that the caller supplies, for elements of any one kind.
-ghost use Rattle.std.specs.Prelude.{◌≡◌, ◌≤◌, length, slice_set};
+ghost use Rattle.std.specs.Prelude.{IfOk, ◌≡◌, ◌≤◌, length, take, slice_set};
 ghost use Rattle.std.specs.List.{slice_get};
 ghost use Rattle.board.specs.Banks.{reached, room_for, filled, kept_or, Rewritten};
+ghost use Rattle.board.specs.Books.{granted};
 
 use crate::refusal::Refusal;
 
@@ -39,6 +40,15 @@ impl<'a, T: Copy> Bank<'a, T> {
         ensures { result.now ≡ self.now.cells.now }
     {
         &*self.cells
+    }
+
+    // The first n cells, to be read; where there are fewer, it refuses.
+    pub fn front(&self, n: usize) -> Result<&[T], Refusal>
+        ensures answer { granted result ≡ room_for n self.now.cells.now }
+        ensures cells { IfOk result (λ front. front.now ≡ take n self.now.cells.now) }
+        ensures length { IfOk result (λ front. length front.now ≡ n) }
+    {
+        self.cells.get(..n).ok_or(Refusal::BankShort)
     }
 
     // What stands in cell i; nothing where there is no such cell.

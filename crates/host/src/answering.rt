@@ -4,7 +4,7 @@ ghost use Rattle.host.specs.Answering.{answered};
 
 use crate::counts::{Counts, absolute_sum};
 use crate::values::fill_values;
-use board::{Grid, Refusal};
+use board::{Bank, Grid, Refusal};
 use field::Field;
 use protocol::Suited;
 use question::Question;
@@ -13,16 +13,14 @@ use writer::{ENOUGH_PAPER, write_sheet};
 // The claim and the sheet's length, with the values and the columns in the tray and the sheet on the paper; or a refusal, and nothing changes.
 pub(crate) fn answer_counts<F: Field, Q: Question<F>>(
     grid: Grid,
-    cells: &[i32],
+    bank: &Bank<'_, i32>,
     question: &Q,
     tray: &mut [F],
     paper: &mut [u8],
 ) -> Result<(i64, usize), Refusal>
-    ensures { record { answer = result; tray = tray.new; paper = paper.new } ≡ answered F.Field.model grid.rows grid.columns cells.now (Q.Question.meaning question.now) tray.old paper.old }
+    ensures { record { answer = result; tray = tray.new; paper = paper.new } ≡ answered F.Field.model grid.rows grid.columns bank.now.cells.now (Q.Question.meaning question.now) tray.old paper.old }
 {
-    let cells = cells
-        .get(..grid.cells() as usize)
-        .ok_or(Refusal::BankShort)?;
+    let cells = bank.front(grid.cells() as usize)?;
     if absolute_sum(cells) > u64::from(F::limit()) {
         return Err(Refusal::CountOutside);
     }

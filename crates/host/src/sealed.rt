@@ -27,6 +27,6 @@ impl<F: Field> Sealed<F> {
     ) -> Result<(i64, usize), Refusal>
         ensures { record { answer = result; tray = tray.new; paper = paper.new } ≡ answered F.Field.model self.now.book.rows self.now.book.columns bank.now.cells.now (Q.Question.meaning question.now) tray.old paper.old }
     {
-        answer_counts(self.book.grid(), bank.cells(), question, tray, paper)
+        answer_counts(self.book.grid(), bank, question, tray, paper)
     }
 }

@@ -5,7 +5,7 @@ ghost use Rattle.board.specs.Banks.{filled};
 ghost use Rattle.verifier.specs.Judging.{weighed, judged};
 
 use crate::weighing::weigh;
-use board::{Grid, Refusal, fill_cells};
+use board::{Bank, Grid, Refusal, fill_cells};
 use field::Field;
 use protocol::Suited;
 use question::Question;
@@ -36,16 +36,14 @@ fn settle<F: Field, Q: Question<F>>(
 pub(crate) fn judge_cells<F: Field, Q: Question<F>>(
     grid: Grid,
     point: F,
-    cells: &[F],
+    bank: &Bank<'_, F>,
     question: &Q,
     sheet: &[u8],
     tray: &mut [F],
 ) -> Result<i64, Refusal>
-    ensures { record { answer = result; tray = tray.new } ≡ judged F.Field.model grid.rows grid.columns point cells.now (Q.Question.meaning question.now) sheet.now tray.old }
+    ensures { record { answer = result; tray = tray.new } ≡ judged F.Field.model grid.rows grid.columns point bank.now.cells.now (Q.Question.meaning question.now) sheet.now tray.old }
 {
-    let columns = cells
-        .get(..grid.columns() as usize)
-        .ok_or(Refusal::BankShort)?;
+    let columns = bank.front(grid.columns() as usize)?;
     let asked = Suited::new(question, grid)?;
     let claim = read_sheet(sheet, &asked.terms(), tray)?;
     settle(&asked, point, columns, claim, tray)

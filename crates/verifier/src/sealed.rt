@@ -29,7 +29,7 @@ impl<F: Field> Sealed<F> {
         judge_cells(
             self.book.grid(),
             self.point,
-            bank.cells(),
+            bank,
             question,
             sheet,
             tray,

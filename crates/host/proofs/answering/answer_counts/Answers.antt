@@ -1,6 +1,7 @@
-use Rattle.std.proofs.Common.{◌≡◌, suc, ◌+◌, ◌-◌, ◌*◌, ◌≤◌, ◌++◌, length, take, drop, Ok, sym, ap, ◌∙◌, subst, ap₂, arith, w64, SFits, to_z, of_z, rules}
+use Rattle.std.proofs.Common.{◌≡◌, suc, ◌+◌, ◌*◌, ◌≤◌, ◌++◌, length, take, drop, Ok, sym, ap, ◌∙◌, subst, ap₂, arith, w64, SFits, to_z, of_z, rules}
 use Rattle.std.proofs.lemmas.Int.{to_z-of_z}
 use Rattle.board.specs.Ledger.{abs_sum}
+use Rattle.board.proofs.Fronts.{front_read}
 use Rattle.polynomial.specs.Columns.{columns}
 use Rattle.polynomial.specs.Interpolation.{node}
 use Rattle.polynomial.proofs.Sums.{length-listed}
@@ -15,9 +16,18 @@ use Rattle.host.proofs.answering.answer_counts.Goals as goal
 pub invariant_of-counts : goal.invariant_of-counts
 invariant_of-counts g c =
     let cells = c.in_ok-cells.cells.now in
-    let got = (rw c.in_ok-cells.ensures.ok_part at c.get.ensures.lookup).0 in
     let light : abs_sum cells ≤ g.F.Field.model.limit = omega (arith, c.absolute_sum.ensures, c.from.ensures, c.limit.ensures, c.if-absolute_sum-from.false) in
-    record { whole = omega (arith, got.3, c.cells.ensures); ranged = light_ranged g.met.F.Field.lawful cells light }
+    record { whole = search rules; ranged = light_ranged g.met.F.Field.lawful cells light }
+
+pub returns-in_err-asked : goal.returns-in_err-asked
+returns-in_err-asked g c =
+    let h = c.args.grid.rows in
+    let v = c.args.grid.columns in
+    let cells = c.args.bank.now.cells.now in
+    let front = front_read (h * v) _ cells c.in_ok-cells.cells.now c.cells.ensures c.in_ok-cells.ensures.cells c.in_ok-cells.ensures.length in
+    let long = front.long in
+    let light : abs_sum (take (h * v) cells) ≤ g.F.Field.model.limit = subst (λ xs. abs_sum xs ≤ g.F.Field.model.limit) front.is (omega (arith, c.absolute_sum.ensures, c.from.ensures, c.limit.ensures, c.if-absolute_sum-from.false)) in
+    search rules
 
 pub returns : goal.returns
 returns g c =
@@ -25,15 +35,14 @@ returns g c =
     let q = g.Q.Question.meaning c.args.question.now in
     let h = c.args.grid.rows in
     let v = c.args.grid.columns in
-    let cells = c.args.cells.now in
+    let cells = c.args.bank.now.cells.now in
     let tray = c.args.tray.now in
     let paper = c.args.paper.now in
     let asked = c.in_ok-asked.asked in
-    let got = (rw c.in_ok-cells.ensures.ok_part at c.get.ensures.lookup).0 in
     let fs = take (h * v) cells in
-    let count : c.cells.result - 0 ≡ h * v = omega (arith, c.cells.ensures) in
-    let counts : c.in_ok-cells.cells.now ≡ fs = got.2 ∙ ap (λ n. take n cells) count in
-    let long : h * v ≤ length cells = omega (arith, got.1, c.cells.ensures) in
+    let front = front_read (h * v) _ cells c.in_ok-cells.cells.now c.cells.ensures c.in_ok-cells.ensures.cells c.in_ok-cells.ensures.length in
+    let counts = front.is in
+    let long = front.long in
     let light : abs_sum fs ≤ F.limit = subst (λ xs. abs_sum xs ≤ F.limit) counts (omega (arith, c.absolute_sum.ensures, c.from.ensures, c.limit.ensures, c.if-absolute_sum-from.false)) in
     let suit = suit_granted q h v tt (sym c.in_ok-asked.ensures.answer) in
     let same : g.Q.Question.meaning asked.question.now ≡ q = ap g.Q.Question.meaning c.in_ok-asked.ensures.question in
