@@ -24,7 +24,7 @@ returns-in_err-asked g c =
     let h = c.args.grid.rows in
     let v = c.args.grid.columns in
     let cells = c.args.bank.now.cells.now in
-    let front = front_read (h * v) _ cells c.in_ok-cells.cells.now c.cells.ensures c.in_ok-cells.ensures.cells c.in_ok-cells.ensures.length in
+    let front = front_read (h * v) _ cells c.in_ok-cells.cells.now (omega (arith, c.cells.ensures)) c.in_ok-cells.ensures.cells c.in_ok-cells.ensures.length in
     let long = front.long in
     let light : abs_sum (take (h * v) cells) ≤ g.F.Field.model.limit = subst (λ xs. abs_sum xs ≤ g.F.Field.model.limit) front.is (omega (arith, c.absolute_sum.ensures, c.from.ensures, c.limit.ensures, c.if-absolute_sum-from.false)) in
     search rules
@@ -40,7 +40,7 @@ returns g c =
     let paper = c.args.paper.now in
     let asked = c.in_ok-asked.asked in
     let fs = take (h * v) cells in
-    let front = front_read (h * v) _ cells c.in_ok-cells.cells.now c.cells.ensures c.in_ok-cells.ensures.cells c.in_ok-cells.ensures.length in
+    let front = front_read (h * v) _ cells c.in_ok-cells.cells.now (omega (arith, c.cells.ensures)) c.in_ok-cells.ensures.cells c.in_ok-cells.ensures.length in
     let counts = front.is in
     let long = front.long in
     let light : abs_sum fs ≤ F.limit = subst (λ xs. abs_sum xs ≤ F.limit) counts (omega (arith, c.absolute_sum.ensures, c.from.ensures, c.limit.ensures, c.if-absolute_sum-from.false)) in
