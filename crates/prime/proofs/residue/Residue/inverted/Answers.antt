@@ -5,6 +5,7 @@ use Rattle.prime.specs.Euclid.{euclid_end}
 use Rattle.prime.specs.Equality.{residue_path}
 use Rattle.prime.proofs.residue.Residue.inverted.Goals as goal
 
+-- where the remainder is 0 the other coefficient is the inverse
 pub returns : goal.returns
 returns g c =
     let i = c.loop-r1.invariant.4 in
