@@ -47,23 +47,19 @@ loop-j-preserved g c =
     c.in_ok-low.low c.in_ok-low.high c.of_parts.result c.value_line.new.reader (omega arith) c.of_parts.ensures
     (c.in_ok-low.ensures.read kept)
 
-pub returns-in_err-last_line : goal.returns-in_err-last_line
-returns-in_err-last_line g c =
+pub returns-in_err-last_line-clause-tray : goal.returns-in_err-last_line-clause-tray
+returns-in_err-last_line-clause-tray g c =
     let F = g.F.Field.model in
-    let p = err_from_is_err_and c.from_residual-in_err-last_line.result c.from_residual-in_err-last_line.ensures.1 in
     let long = length-take-le (c.args.terms.now.degree + 1) c.args.tray.now (omega arith) in
     let f = c.loop-j.invariant in
     let e = ending_stops F c.args.terms.now c.args.sheet.now (suc c.args.terms.now.degree) _ c.loop-j.j (omega arith) c.loop-j.reader c.loop-j.values f _ (c.in_err-last_line.ensures _) in
-    rw (p.1, p.2) (record { answer = ap (claim_of F) (sym e); tray = fault_left F c.args.terms.now c.args.sheet.now (c.args.terms.now.degree + 1) (suc c.args.terms.now.degree) (add-one c.args.terms.now.degree) c.args.tray.now c.loop-j.values (omega arith) _ e })
+    fault_left F c.args.terms.now c.args.sheet.now (c.args.terms.now.degree + 1) (suc c.args.terms.now.degree) (add-one c.args.terms.now.degree) c.args.tray.now c.loop-j.values (omega arith) _ e
 
-pub returns : goal.returns
-returns g c =
+pub returns-clause-tray : goal.returns-clause-tray
+returns-clause-tray g c =
     let F = g.F.Field.model in
     let long = length-take-le (c.args.terms.now.degree + 1) c.args.tray.now (omega arith) in
     let f = c.loop-j.invariant in
     let e = all_read F c.args.terms.now c.args.sheet.now (suc c.args.terms.now.degree) _ c.loop-j.j (omega arith) c.loop-j.reader c.loop-j.values f c.last_line.new.reader (c.in_ok-last_line.ensures _) in
-    record {
-      answer = ap (claim_of F) (sym e);
-      tray = values_left F c.args.terms.now c.args.sheet.now (c.args.terms.now.degree + 1) (suc c.args.terms.now.degree) (add-one c.args.terms.now.degree) c.args.tray.now c.loop-j.values (omega arith) _ _ e
-          (all_values F c.args.terms.now c.args.sheet.now (suc c.args.terms.now.degree) _ c.loop-j.j (omega arith) c.loop-j.reader c.loop-j.values f (omega arith));
-    }
+    values_left F c.args.terms.now c.args.sheet.now (c.args.terms.now.degree + 1) (suc c.args.terms.now.degree) (add-one c.args.terms.now.degree) c.args.tray.now c.loop-j.values (omega arith) _ _ e
+    (all_values F c.args.terms.now c.args.sheet.now (suc c.args.terms.now.degree) _ c.loop-j.j (omega arith) c.loop-j.reader c.loop-j.values f (omega arith))
