@@ -5,6 +5,7 @@ use Rattle.expect.proofs.Passes.{stop_first}
 use Rattle.sheet.proofs.Passes.{stop_low, stop_high, at_back}
 use Rattle.sheet.proofs.lines.value_line.Goals as goal
 
+-- each refusal is the one at which the whole pass stops, and what is read up to there is the pass so far
 pub returns-in_err-pass-clause-read : goal.returns-in_err-pass-clause-read
 returns-in_err-pass-clause-read g c =
     let p = err_from_is_err_and c.from_residual.result c.from_residual.ensures.1 in
