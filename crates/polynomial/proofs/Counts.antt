@@ -2,8 +2,7 @@
 use Rattle.std.proofs.Common.{◌≡◌, ◌+◌, ◌≤◌, ◌⊎◌, List, [], ◌∷◌, length, refl, inl, inr, arith}
 use Rattle.field.specs.Field.{FieldModel, LawfulField}
 use Rattle.polynomial.specs.Lists.{Each, Any, Distinct}
-use Rattle.polynomial.specs.Polynomials.{eval, Root, Bounded, Counting}
-use Rattle.field.proofs.Sameness.{decided}
+use Rattle.polynomial.specs.Polynomials.{Root, Counting}
 use Rattle.polynomial.proofs.Roots.{root_bound}
 
 module _ {A : Type 0} where
@@ -66,12 +65,3 @@ module _ {K : Type 0} {F : FieldModel K} (L : LawfulField F) where
       let m = root_bound L b.degree b.poly b.fits b.nonzero s.left (distinct_first s.split ds) s.lefts in
       let n = counting bs s.right (distinct_second s.split ds) s.rights in
       omega (arith, split_length s.split)
-
-  -- whether a point is a root of one of the polynomials is decided
-  pub some_root : (bs : List (Bounded F)) (r : K) → Any (λ b. Root F b.poly r) bs ⊎ Each (λ b. ¬ (Root F b.poly r)) bs
-  some_root [] r = inr tt
-  some_root (b ∷ bs) r =
-      elim (decided L.parts (eval F b.poly r) F.zero) [
-        | inl e ↦ inl (inl e.0)
-        | inr e ↦ elim (some_root bs r) [ inl d ↦ inl (inr d) | inr d ↦ inr (e.0, d) ]
-      ]

@@ -54,8 +54,8 @@ module _ {K : Type 0} {F : FieldModel K} (L : LawfulField F) where
   fold-add a (x ∷ xs) = fold-add (F.add a x) xs ∙ L.ring.add_assoc a x (list_sum F xs)
 
   -- the sum of a list, added up from its first element on
-  pub fold-sum : (xs : List K) → fold F.add F.zero xs ≡ list_sum F xs
-  fold-sum xs = fold-add F.zero xs ∙ zero-add L.ring (list_sum F xs)
+  pub fold-sum : {z : K} → z ≡ F.zero → (xs : List K) → fold F.add z xs ≡ list_sum F xs
+  fold-sum {z} i xs = fold-add z xs ∙ ap (λ a. F.add a (list_sum F xs)) i ∙ zero-add L.ring (list_sum F xs)
 
   pub list_sum-listed : (j n : ℕ) (f : ℕ → K) → list_sum F (listed j n f) ≡ sum_from F j n f
   list_sum-listed j zero f = refl

@@ -17,6 +17,7 @@ pub fn roots_at_most_degree<F: Field>()
 {}
 
 // Different points, each a root of one of several polynomials, are no more than the sum of the degrees.
+#[tactic(auto, using(crate::proofs::Counts::counting))]
 pub fn roots_of_several<F: Field>()
     ensures { Counting F.Field.model }
 {}
@@ -32,6 +33,7 @@ pub fn one_polynomial_through_values<F: Field>()
 {}
 
 // The pass over the values that divides by no difference with the point gives that polynomial's value.
+#[tactic(auto, using(crate::proofs::OnePass::one_pass_lem))]
 pub fn one_pass_interpolates<F: Field>()
     ensures { OnePass F.Field.model }
 {}

@@ -32,8 +32,8 @@ module _ {K : Type 0} {plus : K → K → K} {none : K} (S : Sum plus none) wher
     onto a [] = sym (ap (plus a) e ∙ S.none_more a)
     onto a (x ∷ xs) = onto (plus a (term x)) xs ∙ S.regroup a (term x) (right xs) ∙ ap (plus a) (sym (r x xs))
 
-    pub each_term : (xs : List X) → fold (λ s x. plus s (term x)) none xs ≡ right xs
-    each_term xs = onto none xs ∙ S.from_none (right xs)
+    pub each_term : {z : K} → z ≡ none → (xs : List X) → fold (λ s x. plus s (term x)) z xs ≡ right xs
+    each_term {z} i xs = onto z xs ∙ ap (λ a. plus a (right xs)) i ∙ S.from_none (right xs)
 
   -- ---- a term for each number from j on
   module _ (term : ℕ → K) (right : ℕ → ℕ → K) (e : (j : ℕ) → right j 0 ≡ none) (r : (j n : ℕ) → right j (suc n) ≡ plus (term j) (right (suc j) n)) where
@@ -41,8 +41,8 @@ module _ {K : Type 0} {plus : K → K → K} {none : K} (S : Sum plus none) wher
     numbers_onto a j zero = sym (ap (plus a) (e j) ∙ S.none_more a)
     numbers_onto a j (suc n) = rw add-one (numbers_onto (plus a (term j)) (suc j) n) ∙ S.regroup a (term j) (right (suc j) n) ∙ ap (plus a) (sym (r j n))
 
-    pub each_number : (j n : ℕ) → fold (λ s x. plus s (term x)) none (range_with_len j n) ≡ right j n
-    each_number j n = numbers_onto none j n ∙ S.from_none (right j n)
+    pub each_number : {z : K} → z ≡ none → (j n : ℕ) → fold (λ s x. plus s (term x)) z (range_with_len j n) ≡ right j n
+    each_number {z} i j n = numbers_onto z j n ∙ ap (λ a. plus a (right j n)) i ∙ S.from_none (right j n)
 
   -- ---- the items of one of the goods
   module _ (kind : ℕ) (right : ℕ → List K → K) (e : (j : ℕ) → right j [] ≡ none) (r : (j : ℕ) (x : K) (xs : List K) → right j (x ∷ xs) ≡ plus (cond (eqb (j % 8) kind) x none) (right (suc j) xs)) where
@@ -54,8 +54,8 @@ module _ {K : Type 0} {plus : K → K → K} {none : K} (S : Sum plus none) wher
     goods_onto a j [] = sym (ap (plus a) (e j) ∙ S.none_more a)
     goods_onto a j (x ∷ xs) = taken_if (eqb (j % 8) kind) a x j _ (right (suc j) xs) (λ b. rw add-one (goods_onto b (suc j) xs)) ∙ ap (plus a) (sym (r j x xs))
 
-    pub each_of_goods : (xs : List K) → fold (λ s p. plus s p.1) none (filter (λ p. eqb (p.0 % 8) kind) (enumerate_from 0 xs)) ≡ right 0 xs
-    each_of_goods xs = goods_onto none 0 xs ∙ S.from_none (right 0 xs)
+    pub each_of_goods : {z : K} → z ≡ none → (xs : List K) → fold (λ s p. plus s p.1) z (filter (λ p. eqb (p.0 % 8) kind) (enumerate_from 0 xs)) ≡ right 0 xs
+    each_of_goods {z} i xs = goods_onto z 0 xs ∙ ap (λ a. plus a (right 0 xs)) i ∙ S.from_none (right 0 xs)
 
 -- ---- a sum of whole numbers overflows at no item, if the absolute values come to less than 2 ^ 63
 -- a sum begun at a

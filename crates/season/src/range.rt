@@ -26,6 +26,7 @@ fn basis_total<F: Field>(rows: u32, start: u32, end: u32, point: F) -> F
 }
 
 // The rule on the cells from first to last: the first and the last row in part, and the rows between them at once.
+#[tactic(auto, using(crate::proofs::Ranges::in_one_row))]
 fn rows_rule<F: Field>(grid: Grid, first: u64, last: u64, point: F, columns: &[F]) -> F
     requires ordered { first ≤ last }
     requires inside { last < grid.rows * grid.columns }

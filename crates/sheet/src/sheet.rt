@@ -26,6 +26,7 @@ fn fill<F: Field>(sheet: &[u8], terms: &Terms, tray: &mut [F]) -> Result<i64, Re
 }
 
 // Reads a sheet: leaves its values in the first degree + 1 elements of the tray and answers its claim, or leaves zeros there and tells its first fault.
+#[tactic(auto, using(crate::proofs::Fills::answer_is, crate::proofs::Fills::tray_after_lem, crate::proofs::Fills::values_kept, crate::proofs::Fills::zeros_put))]
 pub fn read_sheet<F: Field>(sheet: &[u8], terms: &Terms, tray: &mut [F]) -> Result<i64, Refusal>
     ensures answer { result ≡ read_answer F.Field.model terms.now sheet.now tray.old }
     ensures tray { tray.new ≡ tray_after F.Field.model terms.now sheet.now tray.old }

@@ -1,12 +1,10 @@
 -- Runs, spaces and classes of bytes, one byte at a time.
-use Rattle.std.proofs.Common.{cond, not, take_while, ◌≡◌, ℕ, suc, ◌+◌, ◌-◌, ◌*◌, ◌^◌, ◌<◌, ◌≤◌, Bool, true, false, ◌&&◌, eqb, leb, List, [], ◌∷◌, length, get_or, take, drop, ℤ, neg_ℤ, Some, None, Option, sym, refl, ap, ◌∙◌, add-one, arith, lit<}
+use Rattle.std.proofs.Common.{cond, not, take_while, ◌≡◌, ℕ, suc, ◌+◌, ◌<◌, ◌≤◌, Bool, true, false, ◌&&◌, eqb, leb, List, [], ◌∷◌, length, get_or, take, ℤ, neg_ℤ, Some, None, Option, sym, refl, ap, ◌∙◌, arith}
 use Rattle.std.specs.List.{list_all, prefix_len}
-use native.Mathlib.Nat.{pow-succ', pow-le-pow_right}
-use Rattle.std.proofs.lemmas.List.{drop_more, drop_all}
 use Rattle.std.proofs.lemmas.List.Sums.{prefix_len-le-length}
 use Rattle.std.proofs.lemmas.List.Folds.{length-prefix_len}
-use Rattle.std.proofs.lemmas.Bool.{cond-false, and_left, and_right, and_from, cond_both, le-leb, ne_eqb}
-use Rattle.token.specs.Tokens.{is_stop, leading_run, leading_spaces, made_of, value_after, digits_value, signed_by, number_of, numeric, is_word, Token, Token.opening, Token.closing, Token.line_end, Token.sheet_end, Token.word, Token.number, Token.malformed, classed, token_at, width, line_ends}
+use Rattle.std.proofs.lemmas.Bool.{cond-false, and_from, cond_both, le-leb, ne_eqb}
+use Rattle.token.specs.Tokens.{is_stop, leading_run, leading_spaces, made_of, digits_value, signed_by, number_of, numeric, is_word, Token, Token.opening, Token.closing, Token.line_end, Token.sheet_end, Token.word, Token.number, Token.malformed, classed, token_at, width, line_ends}
 
 -- the run and the spaces at the front, in the library's words
 run_prefix : (bs : List ℕ) → prefix_len (λ b. not (is_stop b)) bs ≡ length (leading_run bs)
@@ -27,39 +25,10 @@ run_taken bs = length-prefix_len (λ b. not (is_stop b)) bs ∙ run_prefix bs
 pub spaces_taken : (bs : List ℕ) → length (take_while (λ b. eqb b 32) bs) ≡ leading_spaces bs
 spaces_taken bs = length-prefix_len (λ b. eqb b 32) bs ∙ spaces_prefix bs
 
-pub each_more : (p : ℕ → Bool) (bs : List ℕ) (i : ℕ) → i < length bs → list_all p (drop i bs) ≡ (p (get_or bs i 0) && list_all p (drop (i + 1) bs))
-each_more p bs i h = ap (list_all p) (drop_more bs i 0 h)
-
-pub each_end : (p : ℕ → Bool) (bs : List ℕ) (i : ℕ) → length bs ≤ i → list_all p (drop i bs) ≡ true
-each_end p bs i h = ap (list_all p) (drop_all i bs h)
-
-pub value_more : (n : ℕ) (bs : List ℕ) (i : ℕ) → i < length bs → value_after n (drop i bs) ≡ value_after (n * 10 + (get_or bs i 0 - 48)) (drop (i + 1) bs)
-value_more n bs i h = ap (value_after n) (drop_more bs i 0 h)
-
-pub value_end : (n : ℕ) (bs : List ℕ) (i : ℕ) → length bs ≤ i → value_after n (drop i bs) ≡ n
-value_end n bs i h = ap (value_after n) (drop_all i bs h)
-
-pub made_of_no : (p : ℕ → Bool) (n : ℕ) (bs : List ℕ) (i : ℕ) → i < length bs → p (get_or bs i 0) ≡ false → list_all p (drop i bs) ≡ list_all p bs → made_of p n bs ≡ false
-made_of_no p n bs i h e same =
-    and_right (leb 1 (length bs)) (leb (length bs) n && list_all p bs)
-    (and_right (leb (length bs) n) (list_all p bs) (sym same ∙ each_more p bs i h ∙ and_left (p (get_or bs i 0)) (list_all p (drop (i + 1) bs)) e))
-
 pub made_of_yes : (p : ℕ → Bool) (n : ℕ) (bs : List ℕ) → 0 < length bs → length bs ≤ n → list_all p bs ≡ true → made_of p n bs ≡ true
 made_of_yes p n bs some few all =
     and_from (leb 1 (length bs)) (leb (length bs) n && list_all p bs) (le-leb 1 (length bs) some)
     (and_from (leb (length bs) n) (list_all p bs) (le-leb (length bs) n few) all)
-
-pub each_next : (p : ℕ → Bool) (bs : List ℕ) (i : ℕ) → i < length bs → p (get_or bs i 0) ≡ true → list_all p (drop i bs) ≡ list_all p bs → list_all p (drop (i + 1) bs) ≡ list_all p bs
-each_next p bs i h e same = sym (each_more p bs i h ∙ ap (λ b. b && list_all p (drop (i + 1) bs)) e) ∙ same
-
-pub grown : (v d i : ℕ) → v < 10 ^ i → d < 10 → v * 10 + d < 10 ^ (i + 1)
-grown v d i h k = rw (add-one, pow-succ') (omega arith)
-
-pub room : (v i : ℕ) → v < 10 ^ i → i < 10 → v < 10 ^ 9
-room v i h k = let k9 : i ≤ 9 = omega arith in let p : 10 ^ i ≤ 10 ^ 9 = pow-le-pow_right (lit< tt) k9 in omega arith
-
-pub room_all : (v i : ℕ) → v < 10 ^ i → i ≤ 10 → v < 10 ^ 10
-room_all v i h k = let p : 10 ^ i ≤ 10 ^ 10 = pow-le-pow_right (lit< tt) k in omega arith
 
 pub number_plain : (bs : List ℕ) → (0 < length bs → get_or bs 0 0 ≡ 45 → ⊥) → number_of bs ≡ signed_by (λ z. z) (digits_value bs)
 number_plain [] e = refl

@@ -3,7 +3,7 @@ use Rattle.std.proofs.Common.{true, cond, ◌≡◌, ℕ, ◌+◌, ◌-◌, ◌/
 use borrow.Rule.Slice.PartMut.{put_mid}
 use Rattle.std.specs.Fmt.{signed_decimal}
 use Rattle.std.proofs.lemmas.Fmt.{decimal_step}
-use Rattle.std.proofs.lemmas.List.{drop-drop, drop_more, drop_all}
+use Rattle.std.proofs.lemmas.List.{drop-drop, drop_more}
 use Rattle.std.proofs.lemmas.Int.{ints}
 use Rattle.std.proofs.lemmas.Bool.{and_from}
 use Rattle.std.proofs.lemmas.Slice.{take-put_mid, drop-put_mid}
@@ -95,9 +95,6 @@ putting_all p e = lays_as (sym (append-nil p.sofar) ∙ ap (λ zs. p.sofar ++ zs
 module _ {X : Type 0} (f : X → Mark) (xs : List X) (i : ℕ) (space : Bool) where
   mark_next : (d : X) → i < length xs → written_on space (map f (drop i xs)) ≡ spaced_bytes space (f (get_or xs i d)) ++ written_on (spaced_after (f (get_or xs i d))) (map f (drop (i + 1) xs))
   mark_next d h = ap (λ ys. written_on space (map f ys)) (drop_more xs i d h)
-
-  pub marks_done : length xs ≤ i → written_on space (map f (drop i xs)) ≡ []
-  marks_done h = ap (λ ys. written_on space (map f ys)) (drop_all i xs h)
 
   module _ (d : X) (lt : i < length xs) {total before paper : List ℕ} {at end : ℕ} (p : Putting total before at paper end (written_on space (map f (drop i xs)))) where
     pub mark_room : end + length (spaced_bytes space (f (get_or xs i d))) ≤ at + length total

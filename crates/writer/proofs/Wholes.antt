@@ -1,13 +1,12 @@
 -- A whole sheet, put on paper line by line. Assumes nothing.
-use Rattle.std.proofs.Common.{◌≡◌, ℕ, ◌+◌, ◌^◌, ◌<◌, ◌≤◌, true, leb, List, [], ◌++◌, length, drop, ℤ, pos, negsuc, nat_abs, Ok, Err, sym, refl, ap, ◌∙◌, append-nil, arith}
+use Rattle.std.proofs.Common.{◌≡◌, ℕ, ◌+◌, ◌^◌, ◌<◌, ◌≤◌, true, leb, List, [], ◌++◌, length, drop, ℤ, pos, negsuc, nat_abs, sym, refl, ◌∙◌, append-nil, arith}
 use lib.Signed.{mag}
 use Rattle.std.proofs.lemmas.Bool.{cond-true, and_from, le-leb}
-use Rattle.board.specs.declared.refusal.Refusal.TheVariants.{PaperShort}
 use Rattle.field.specs.Field.{FieldModel}
 use Rattle.sheet.specs.declared.terms.Terms.{Terms}
 use Rattle.layout.specs.Marks.{sheet_marks, claim_marks}
 use Rattle.writer.specs.Texts.{written, text}
-use Rattle.writer.specs.Papers.{Lays, writable, write_answer, paper_after}
+use Rattle.writer.specs.Papers.{Lays, writable, paper_after}
 use Rattle.writer.proofs.Papers.{Putting, putting_none, putting_room, putting_length, putting_more, putting_all, lays_whole}
 use Rattle.writer.proofs.Lengths.{lines_from, text_lines}
 
@@ -26,9 +25,6 @@ module _ {K : Type 0} (F : FieldModel K) (xs : List K) (t : Terms) (c : ℤ) (z 
 
   start : Putting (text F t c xs) paper at paper at (text F t c xs)
   start = putting_none (text F t c xs) paper at
-
-  pub first_room : at + length first ≤ length paper
-  first_room = let r = putting_room start first (second ++ lines_from F xs 0) three_parts in omega arith
 
   module _ {paper₁ : List ℕ} {a : ℕ} (x : Lays first paper at paper₁ a) where
     one : Putting (text F t c xs) paper at paper₁ a (second ++ lines_from F xs 0)
@@ -52,14 +48,10 @@ pub claim_small : (c : ℤ) → mag c < 2 ^ 63 → nat_abs c < 10 ^ 19
 claim_small (pos n) h = omega arith
 claim_small (negsuc n) h = omega arith
 
--- what write_sheet answers and leaves where it writes
+-- what write_sheet leaves where it writes
 module _ {K : Type 0} (F : FieldModel K) (t : Terms) (c : ℤ) (xs : List K) (paper : List ℕ) (few : length xs ≤ 253) (enough : 9216 ≤ length paper) where
   may_write : writable (length xs) (length paper) ≡ true
   may_write = and_from (leb (length xs) 253) (leb 9216 (length paper)) (le-leb (length xs) 253 few) (le-leb 9216 (length paper) enough)
 
-  pub wrote : {after : List ℕ} {n : ℕ} → Lays (text F t c xs) paper 0 after n → (Ok n ≡ write_answer F t c xs paper) × (after ≡ paper_after F t c xs paper)
-  wrote l =
-      let w = lays_whole l in (
-        ap Ok w.0 ∙ sym (cond-true (writable (length xs) (length paper)) (Ok (length (text F t c xs))) (Err PaperShort) may_write),
-        w.1 ∙ sym (cond-true (writable (length xs) (length paper)) (text F t c xs ++ drop (length (text F t c xs)) paper) paper may_write),
-      )
+  pub wrote : {after : List ℕ} {n : ℕ} → Lays (text F t c xs) paper 0 after n → after ≡ paper_after F t c xs paper
+  wrote l = (lays_whole l).1 ∙ sym (cond-true (writable (length xs) (length paper)) (text F t c xs ++ drop (length (text F t c xs)) paper) paper may_write)

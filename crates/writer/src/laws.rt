@@ -4,6 +4,7 @@ ghost use Rattle.writer.specs.Laws.{ReadsBack, TextFits};
 use field::Field;
 
 // What is written is read back.
+#[tactic(auto, using(crate::proofs::Texts::reads_back))]
 pub fn reads_back<F: Field>()
     ensures { ReadsBack F.Field.model }
 {}

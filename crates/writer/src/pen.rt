@@ -37,6 +37,7 @@ impl<'a> Pen<'a> {
     }
 
     // A natural number in decimal, by hand: a `write!` may fail, and this may not.
+    #[tactic(auto, using(std::proofs::lemmas::Fmt::decimal_digit, std::proofs::lemmas::Fmt::decimal_nonempty, crate::proofs::Papers::front_fits, crate::proofs::Papers::lays_length, crate::proofs::Papers::lays_as))]
     pub(crate) fn decimal(&mut self, n: u64)
         requires { Room (decimal n) self.old }
         ensures { Puts (decimal n) self.old self.new }

@@ -4,6 +4,7 @@ use Rattle.expect.specs.Expectations.{due_of}
 use Rattle.expect.proofs.Passes.{pass_on, pass_stop, pass_done}
 use Rattle.expect.proofs.expect.pass.Goals as goal
 
+-- for every list of the numbers kept, which no tactic of the check takes up
 pub returns-in_err-expect : goal.returns-in_err-expect
 returns-in_err-expect c kept =
     let p = err_from_is_err_and c.from_residual.result c.from_residual.ensures.1 in

@@ -6,6 +6,7 @@ use Rattle.expect.proofs.Passes.{stop_first}
 use Rattle.sheet.proofs.Passes.{stop_claim, at_form_end, claim_as}
 use Rattle.sheet.proofs.lines.claim_lines.Goals as goal
 
+-- each refusal is the one at which the whole pass stops, and what is read up to there is the pass so far
 pub returns-in_err-pass : goal.returns-in_err-pass
 returns-in_err-pass g c =
     let p = err_from_is_err_and c.from_residual.result c.from_residual.ensures.1 in

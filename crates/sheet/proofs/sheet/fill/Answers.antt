@@ -6,6 +6,7 @@ use Rattle.sheet.specs.Readings.{claim_due, claim_of, Filled}
 use Rattle.sheet.proofs.Fills.{flat, none_read, one_read, line_stops, ending_stops, all_read, all_values, claim_stops, fault_left, values_left}
 use Rattle.sheet.proofs.sheet.fill.Goals as goal
 
+-- a refusal of a part is that of the whole reading, and so below; the tray's rest is as it was
 pub returns-in_err-claim : goal.returns-in_err-claim
 returns-in_err-claim g c =
     let F = g.F.Field.model in
@@ -14,6 +15,7 @@ returns-in_err-claim g c =
     (c.in_err-claim.ensures [] ∙ ap (pass (claim_due F.characteristic F.degree c.args.terms.now) []) c.new-reader.ensures) in
     rw (p.1, p.2) (record { answer = ap (claim_of F) (sym e); tray = subst (λ o. Filled F (suc c.args.terms.now.degree) o c.args.tray.now c.args.tray.now) (sym e) refl })
 
+-- no value is read, and below one more
 pub loop-j-init : goal.loop-j-init
 loop-j-init g c =
     let f : SFits w64 c.in_ok-claim.claim = search rules in
@@ -56,14 +58,12 @@ returns-in_err-last_line g c =
     let e = ending_stops F c.args.terms.now c.args.sheet.now (suc c.args.terms.now.degree) _ c.loop-j.j (omega arith) c.loop-j.reader c.loop-j.values f _ (c.in_err-last_line.ensures _) in
     rw (p.1, p.2) (record { answer = ap (claim_of F) (sym e); tray = fault_left F c.args.terms.now c.args.sheet.now (c.args.terms.now.degree + 1) (suc c.args.terms.now.degree) (add-one c.args.terms.now.degree) c.args.tray.now c.loop-j.values (omega arith) _ e })
 
-pub returns : goal.returns
-returns g c =
+-- all are read, so the tray's front is the values
+pub returns-clause-tray : goal.returns-clause-tray
+returns-clause-tray g c =
     let F = g.F.Field.model in
     let long = length-take-le (c.args.terms.now.degree + 1) c.args.tray.now (omega arith) in
     let f = c.loop-j.invariant in
     let e = all_read F c.args.terms.now c.args.sheet.now (suc c.args.terms.now.degree) _ c.loop-j.j (omega arith) c.loop-j.reader c.loop-j.values f c.last_line.new.reader (c.in_ok-last_line.ensures _) in
-    record {
-      answer = ap (claim_of F) (sym e);
-      tray = values_left F c.args.terms.now c.args.sheet.now (c.args.terms.now.degree + 1) (suc c.args.terms.now.degree) (add-one c.args.terms.now.degree) c.args.tray.now c.loop-j.values (omega arith) _ _ e
-          (all_values F c.args.terms.now c.args.sheet.now (suc c.args.terms.now.degree) _ c.loop-j.j (omega arith) c.loop-j.reader c.loop-j.values f (omega arith));
-    }
+    values_left F c.args.terms.now c.args.sheet.now (c.args.terms.now.degree + 1) (suc c.args.terms.now.degree) (add-one c.args.terms.now.degree) c.args.tray.now c.loop-j.values (omega arith) _ _ e
+    (all_values F c.args.terms.now c.args.sheet.now (suc c.args.terms.now.degree) _ c.loop-j.j (omega arith) c.loop-j.reader c.loop-j.values f (omega arith))

@@ -7,6 +7,7 @@ use Rattle.writer.proofs.Lengths.{text_fits}
 use Rattle.writer.proofs.Wholes.{claim_small, wrote}
 use Rattle.writer.proofs.writer.write.Goals as goal
 
+-- the text is no longer than the paper that is enough: its numbers have few digits
 pub put_sheet-requires : goal.put_sheet-requires
 put_sheet-requires g c =
     let fit : TenDigits c.args.terms = record { rows_fit = omega arith; columns_fit = omega arith; kind_fits = omega arith; first_fits = omega arith; second_fits = omega arith } in
@@ -14,9 +15,8 @@ put_sheet-requires g c =
     let r = text_fits g.F.Field.model g.met.F.Field.lawful c.args.terms (to_z w64 (of_z w64 c.args.claim)) c.args.values.now fit small (omega arith) in
     omega arith
 
-pub returns : goal.returns
-returns g c =
+-- the text lies at the start of the paper, which is as it was behind it
+pub returns-clause-paper : goal.returns-clause-paper
+returns-clause-paper g c =
     let e = to_z-of_z w64 c.args.claim c.ranges.claim in
-    let r = wrote g.F.Field.model c.args.terms c.args.claim c.args.values.now c.args.paper.now (omega arith) (omega arith)
-    (lays_as (ap (λ z. text g.F.Field.model c.args.terms z c.args.values.now) e) c.put_sheet.ensures) in
-    record { answer = r.0; paper = r.1 }
+    wrote g.F.Field.model c.args.terms c.args.claim c.args.values.now c.args.paper.now (omega arith) (omega arith) (lays_as (ap (λ z. text g.F.Field.model c.args.terms z c.args.values.now) e) c.put_sheet.ensures)

@@ -5,6 +5,7 @@ use Rattle.extension.specs.Pairs.{conjugate_times}
 use Rattle.extension.specs.Laws.{inverse_by_norm}
 use Rattle.extension.proofs.quadratic.ExtensionField.inverse.Goals as goal
 
+-- the conjugate over the norm, and nothing where the norm is zero
 pub returns : goal.returns
 returns g c =
     let F = g.B.Field.model in

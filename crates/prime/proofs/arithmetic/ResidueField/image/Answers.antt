@@ -7,6 +7,7 @@ use Rattle.prime.specs.Remainders.{modulo-mod, modulo_negative, modulo_multiple,
 use Rattle.prime.proofs.arithmetic.ResidueField.image.Goals as goal
 use Rattle.prime.proofs.arithmetic.ResidueField.image.Goals.{then-n-lt0+then-rest-gt0, else-n-lt0, else-n-lt0-via-then-n-lt0+else-rest-gt0, else-n-lt0-via-else-n-lt0}
 
+-- the code's three cases are those of a remainder: below zero with a rest, below zero without, and not below zero
 pub returns : goal.returns
 returns g c =
     let n = c.args.n in

@@ -4,6 +4,7 @@ use Rattle.prime.specs.Remainders.{over_mod}
 use Rattle.prime.proofs.arithmetic.ResidueField.sum.Goals as goal
 use Rattle.prime.proofs.arithmetic.ResidueField.sum.Goals.{then-total, else-total}
 
+-- where the total is P or more, one subtraction gives the remainder
 pub returns : goal.returns
 returns g c =
     let total = c.args.self.value + c.args.other.value in

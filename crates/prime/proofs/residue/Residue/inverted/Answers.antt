@@ -1,21 +1,11 @@
-use Rattle.std.proofs.Common.{◌≡◌, ℕ, suc, ◌%◌, ◌<◌, Some, sym, ap, ◌∙◌, subst, mod-lt, arith, ne_eqb}
+use Rattle.std.proofs.Common.{◌≡◌, ℕ, suc, ◌%◌, Some, sym, ap, ◌∙◌, subst, ne_eqb}
 use Rattle.field.specs.Field.{unless}
 use Rattle.prime.specs.Residues.{inverted, euclid}
-use Rattle.prime.specs.Euclid.{euclid_more, euclid_end}
+use Rattle.prime.specs.Euclid.{euclid_end}
 use Rattle.prime.specs.Equality.{residue_path}
 use Rattle.prime.proofs.residue.Residue.inverted.Goals as goal
 
-pub loop-r1-preserved : goal.loop-r1-preserved
-loop-r1-preserved g c =
-    let l : c.loop-r1.r0 % c.loop-r1.r1 < c.loop-r1.r1 = mod-lt _ (omega arith) in
-    let i = c.loop-r1.invariant.4 in (
-      omega arith,
-      omega arith,
-      omega arith,
-      mod-lt _ (omega arith),
-      euclid_more g.row.P i.0 c.loop-r1.r0 c.loop-r1.r1 c.loop-r1.t0 c.loop-r1.t1 _ c.loop-r1-test.true i.1 i.2,
-    )
-
+-- where the remainder is 0 the other coefficient is the inverse
 pub returns : goal.returns
 returns g c =
     let i = c.loop-r1.invariant.4 in

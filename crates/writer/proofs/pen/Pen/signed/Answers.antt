@@ -4,6 +4,7 @@ use Rattle.std.proofs.lemmas.Int.{ints, to_z-of_z}
 use Rattle.writer.proofs.Papers.{lays_length, lays_more, lays_as, signed_minus}
 use Rattle.writer.proofs.pen.Pen.signed.Goals as goal
 
+-- room for the digits: the size of a number below zero in decimal, behind a minus sign, is the number
 pub decimal-requires : goal.decimal-requires
 decimal-requires c =
     let h : c.args.z <ℤ pos 0 = grind (arith, ints, to_z-of_z) in

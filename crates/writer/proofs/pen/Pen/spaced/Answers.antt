@@ -3,6 +3,7 @@ use Rattle.writer.specs.Papers.{mark_of}
 use Rattle.writer.proofs.Papers.{lays_length, lays_more, lays_as, with_space}
 use Rattle.writer.proofs.pen.Pen.spaced.Goals as goal
 
+-- room for the mark behind the space
 pub mark-requires : goal.mark-requires
 mark-requires c =
     let l = ap length (with_space c.args.space (mark_of c.args.mark) c.if-space.true (sym c.if-spaced_before.ensures)) in
