@@ -34,3 +34,51 @@ pub fn read(words: &[String]) -> Result<Option<Work>, Mistake> {
         _ => Err(Mistake::TooFew),
     }
 }
+
+#[cfg(test)]
+mod tests {
+    use super::*;
+    use std::alloc::{AllocError, Global};
+    use std::test::Fail;
+
+    // What is read of the words in a text.
+    fn read_text(heap: Global, text: &str) -> Result<Result<Option<Work>, Mistake>, AllocError> {
+        let mut words = Vec::new(heap);
+        for word in text.split_whitespace() {
+            words.push(word.to_string(heap)?)?;
+        }
+        Ok(read(words.as_slice()))
+    }
+
+    #[test]
+    fn reads_work(rt: HostRuntime) -> Result<(), Fail> {
+        let work = Work {
+            field: FieldName::M31x2,
+            call: Call::BoxNote,
+            grid: Grid::new(4, 16)?,
+            times: 0,
+        };
+        let found = read_text(rt.alloc(), "m31x2 box-note 4 16 0")?;
+        assert_eq!(rt; found, Ok(Some(work)));
+        assert_eq!(rt; read_text(rt.alloc(), "")?, Ok(None));
+        Ok(())
+    }
+
+    #[test]
+    fn tells_mistakes(rt: HostRuntime) -> Result<(), Fail> {
+        for (text, mistake) in [
+            ("m31", Mistake::TooFew),
+            ("m31 read 4 16 3 3", Mistake::TooMany),
+            ("M31 read 4 16 3", Mistake::UnknownField),
+            ("m31 note 4 16 3", Mistake::UnknownCall),
+            ("m31 read four 16 3", Mistake::Rows),
+            ("m31 read 4 -16 3", Mistake::Columns),
+            ("m31 read 4 16 4294967296", Mistake::Times),
+            ("m31 read 65 16 3", Mistake::NoBoard),
+            ("m31 read 4 12 3", Mistake::NoBoard),
+        ] {
+            assert_eq!(rt; read_text(rt.alloc(), text)?, Err(mistake), "{text}");
+        }
+        Ok(())
+    }
+}
