@@ -1,5 +1,5 @@
 -- the words of fields and calls
-use Rattle.std.specs.Prelude.{◌≡◌, ◌≢◌, ℕ, List, Result, codes, IfOk, OnErr, IsErrOf, ◌↔◌}
+use Rattle.std.specs.Prelude.{◌≡◌, ◌≢◌, ℕ, List, Result, codes, IfOk, OnErr}
 use Rattle.bench.specs.declared.fields.FieldName.{FieldName}
 use Rattle.bench.specs.declared.fields.FieldName.TheVariants.{F65537, M31, F65537x2, M31x2}
 use Rattle.bench.specs.declared.calls.Call.{Call}
