@@ -1,8 +1,8 @@
 -- Remainders. Assumes nothing.
-use Rattle.std.specs.Prelude.{◌≡◌, ℕ, suc, ◌+◌, ◌-◌, ◌*◌, ◌/◌, ◌%◌, ◌<◌, ◌≤◌, true, false, ◌⊎◌, ℤ, pos, negsuc, int_lt, unsigned_abs, refl}
-use Rattle.std.proofs.Common.{sym, ap, ◌∙◌, inl, inr, ⊎_elim, eq-or-lt_of_le, mod-eq_of_lt, add-mul, mul-add, mul_assoc, mul_comm, mod-lt, arith}
-use Rattle.std.proofs.Math.Nat.{suc-mod, mod-eq-sub-mod, div-add-mod, mod-add-mod, add-mod-mod, mod_self, mul-add-mod_self_left, add-mul-mod_self_left}
-use borrow.Author.Tests.{ltb-true, clash}
+use Rattle.std.specs.Prelude.{◌≡◌, ℕ, suc, ◌+◌, ◌-◌, ◌*◌, ◌/◌, ◌%◌, ◌<◌, ◌≤◌, Bool, true, false, cond, nat_lt, ℤ, pos, negsuc, ◌+ℤ◌, unsigned_abs, refl}
+use Rattle.std.proofs.Math.IntN.{sub_ℕ, pos-ne-negsuc}
+use Rattle.std.proofs.Common.{sym, ap, ◌∙◌, mod-eq_of_lt, add-mul, mul-add, mul_assoc, mul_comm, mod-lt, arith, ltb-false}
+use Rattle.std.proofs.Math.Nat.{mod-eq-sub-mod, div-add-mod, mod-add-mod, add-mod-mod, mod_self, mul-add-mod_self_left, add-mul-mod_self_left, mul-mod_right}
 use Rattle.field.specs.Field.{modulo}
 
 pub mod-mul-mod : (n k p : ℕ) → ((n % p) * k) % p ≡ (n * k) % p
@@ -45,19 +45,19 @@ modulo-mod p z h = mod-eq_of_lt (modulo_lt p z h)
 pub over_mod : (t p : ℕ) → p ≤ t → t - p < p → t - p ≡ t % p
 over_mod t p lo hi = sym (mod-eq-sub-mod lo ∙ mod-eq_of_lt hi)
 
--- the remainder of the next number: the next one, or 0 after p − 1
-next_mod : (n p : ℕ) → 0 < p → (suc n % p ≡ suc (n % p)) ⊎ ((suc n % p ≡ 0) × (suc (n % p) ≡ p))
-next_mod n p h = ⊎_elim (λ e. inr (suc-mod n p ∙ ap (λ z. z % p) e ∙ mod_self p, e)) (λ l. inl (suc-mod n p ∙ mod-eq_of_lt l)) (eq-or-lt_of_le (mod-lt n h))
+-- a difference that is no less than 0
+difference_least : (k b v : ℕ) → pos v ≡ sub_ℕ k b → v + b ≡ k
+difference_least k b v e = go (nat_lt k b) refl e
+  where
+    go : (t : Bool) → nat_lt k b ≡ t → pos v ≡ cond t (negsuc (b - suc k)) (pos (k - b)) → v + b ≡ k
+    go true l f = absurd (pos-ne-negsuc v (b - suc k) f)
+    go false l f = let least : b ≤ k = ltb-false k b l in omega (arith, ap unsigned_abs f)
 
--- a negative number: what its size leaves, taken from p, or 0 where that leaves nothing
-pub modulo_negative : (p : ℕ) (z : ℤ) → 0 < p → int_lt z (pos 0) ≡ true → 0 < unsigned_abs z % p → p - unsigned_abs z % p ≡ modulo p z
-modulo_negative p (pos n) h neg some = absurd (omega (arith, ltb-true n 0 neg))
-modulo_negative p (negsuc n) h neg some = ⊎_elim (λ e. ap (λ r. p - r) e) (λ e. absurd (omega (arith, e.0))) (next_mod n p h)
-
-pub modulo_multiple : (p : ℕ) (z : ℤ) → 0 < p → int_lt z (pos 0) ≡ true → unsigned_abs z % p ≤ 0 → unsigned_abs z % p ≡ modulo p z
-modulo_multiple p (pos n) h neg none = absurd (omega (arith, ltb-true n 0 neg))
-modulo_multiple p (negsuc n) h neg none = ⊎_elim (λ e. absurd (omega (arith, e))) (λ e. omega (arith, e.0, e.1)) (next_mod n p h)
-
-pub modulo_positive : (p : ℕ) (z : ℤ) → int_lt z (pos 0) ≡ false → unsigned_abs z % p ≡ modulo p z
-modulo_positive p (pos n) sign = refl
-modulo_positive p (negsuc n) sign = absurd (clash (sym sign))
+-- a whole number and a multiple of p, where they come to no less than 0, leave what the number leaves
+pub modulo_raised : (p m : ℕ) (z : ℤ) (v : ℕ) → 0 < p → pos v ≡ z +ℤ pos (p * m) → v % p ≡ modulo p z
+modulo_raised p m (pos n) v h e = ap (λ k. unsigned_abs k % p) e ∙ add-mul-mod_self_left n p m
+modulo_raised p m (negsuc n) v h e =
+    let least : n % p < p = mod-lt n h in
+    let round : p - suc (n % p) + suc n ≡ p * (n / p + 1) = omega (arith, div-add-mod n p, mul-add p (n / p) 1) in
+    cancel_mod v (p - suc (n % p)) (suc n) p h (ap (λ k. k % p) (difference_least (p * m) (suc n) v e) ∙ mul-mod_right p m ∙ sym (ap (λ k. k % p) round ∙ mul-mod_right p (n / p + 1)))
+    ∙ modulo-mod p (negsuc n) h

@@ -1,4 +1,5 @@
 // The prime field of the residues modulo P, for every modulus P. No operation but the inverse has a loop; a sum and an opposite take no division.
+ghost use Rattle.std.specs.Prelude.{◌≡◌, ◌*◌, ◌<◌, pos, ◌+ℤ◌};
 ghost use Rattle.std.proofs.Math.Bool.{and-true};
 ghost use Rattle.std.proofs.Common.{sym, rules};
 ghost use Rattle.prime.specs.Residues.{prime_field, residue_of};
@@ -7,6 +8,14 @@ ghost use Rattle.prime.specs.Fields.{lawful, base};
 use crate::modulus::Modulus;
 use crate::residue::Residue;
 use field::{BaseField, Field};
+
+// A number and so many times P that the sum is not negative: it leaves what the number leaves, with no case for its sign.
+fn raised(n: i32, p: u32) -> u64
+    requires { 0 < p }
+    ensures { pos result ≡ n +ℤ pos (p * 2147483648) }
+{
+    (i64::from(n) + i64::from(p) * 2_147_483_648) as u64
+}
 
 impl<const P: u32> Field for Residue<P>
 where
@@ -64,10 +73,8 @@ where
         Residue { value }
     }
 
-    // The residue of the number's size, taken from P where the number is negative.
     fn image(n: i32) -> Self {
-        let rest = n.unsigned_abs() % P;
-        let value = if n < 0 && rest > 0 { P - rest } else { rest };
+        let value = (raised(n, P) % P as u64) as u32;
         Residue { value }
     }
 

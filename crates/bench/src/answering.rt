@@ -1,0 +1,36 @@
+// A host's answers to the squares.
+use crate::sheets::{paper, tray, values_of, written};
+use crate::subjects::sealed_host;
+use crate::tally::Tally;
+use board::{Bank, Grid};
+use field::Field;
+use season::Squares;
+use std::alloc::Global;
+
+pub fn answer<F: Field>(
+    heap: Global,
+    grid: Grid,
+    times: u32,
+    tally: &mut Tally,
+) -> anyhow::Result<()> {
+    let mut counts = vec![in heap; 0i32; grid.cells() as usize]?;
+    let mut bank = Bank::new(counts.as_mut_slice());
+    let host = sealed_host::<F>(grid, &mut bank)?;
+    let mut tray = tray::<F>(heap, values_of(grid) + grid.columns() as usize)?;
+    let mut paper = paper(heap)?;
+    let mut last = 0;
+    for turn in 0..times {
+        match host.answer(&bank, &Squares, tray.as_mut_slice(), paper.as_mut_slice()) {
+            Ok((claim, length)) => {
+                tally.number(claim.cast_unsigned());
+                tally.value(tray.as_slice(), turn);
+                tally.sheet(written(paper.as_slice(), length), turn);
+                last = length;
+            }
+            Err(why) => tally.refusal(why),
+        }
+    }
+    tally.values(tray.as_slice());
+    tally.bytes(written(paper.as_slice(), last));
+    Ok(())
+}

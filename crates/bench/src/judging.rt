@@ -1,0 +1,32 @@
+// A box's judgements of the sheet of an honest host.
+use crate::sheets::{stated, tray};
+use crate::subjects::sealed_box;
+use crate::tally::Tally;
+use board::{Bank, Grid};
+use field::Field;
+use season::Squares;
+use std::alloc::Global;
+
+pub fn judge<F: Field>(
+    heap: Global,
+    grid: Grid,
+    times: u32,
+    tally: &mut Tally,
+) -> anyhow::Result<()> {
+    let stated = stated::<F>(heap, grid)?;
+    let mut sums = vec![in heap; F::zero(); grid.columns() as usize]?;
+    let mut bank = Bank::new(sums.as_mut_slice());
+    let verifier = sealed_box::<F>(grid, &mut bank)?;
+    let mut tray = tray::<F>(heap, stated.values.len())?;
+    for turn in 0..times {
+        let found = verifier.judge(
+            &bank,
+            &Squares,
+            stated.sheet.as_slice(),
+            tray.as_mut_slice(),
+        );
+        tally.claim(found, tray.as_slice(), turn);
+    }
+    tally.values(tray.as_slice());
+    Ok(())
+}
