@@ -68,6 +68,7 @@ fn expect(reader: &mut Reader<'_>, due: Due) -> Result<(), Refusal>
 }
 
 // Reads the tokens that are due, in order.
+#[tactic(auto, using(crate::proofs::Passes::pass_done))]
 pub fn pass(reader: &mut Reader<'_>, dues: &[Due]) -> Result<(), Refusal>
     ensures { (kept : List ℤ) → passed_on kept result reader.new ≡ pass (map due_of dues.now) kept reader.old }
 {
