@@ -1,5 +1,5 @@
 -- A board of two rows and eight columns, worked out over the residues modulo 65,537: the promise's bound is reached on it. Assumes nothing.
-use Rattle.std.specs.Prelude.{◌≡◌, ℕ, List, [], ◌∷◌, length, ℤ, pos, negsuc}
+use Rattle.std.specs.Prelude.{◌≡◌, ℕ, ◌≤◌, List, [], ◌∷◌, ◌++◌, length, take, replicate, ℤ, pos, negsuc, Ok, codes, ◌⊎◌}
 use Rattle.std.proofs.Common.{lit<}
 use Rattle.field.specs.Field.{FieldModel}
 use Rattle.prime.specs.declared.residue.Residue.{Residue}
@@ -8,9 +8,10 @@ use Rattle.board.specs.declared.game.Move.{Move}
 use Rattle.polynomial.specs.Lists.{Each, Distinct}
 use Rattle.polynomial.specs.Interpolation.{node}
 use Rattle.question.specs.Question.{LawfulQuestion}
+use Rattle.question.specs.Cells.{range_question}
 use Rattle.question.specs.SquareSums.{squares_question}
 use Rattle.promise.specs.Claims.{Entry, FalseClaim, false_degrees}
-use Rattle.promise.specs.Sealed.{Fooled}
+use Rattle.promise.specs.Sealed.{SealedVerifier, verifier_gives, Fooled, SealedHost, host_gives}
 
 -- the residues modulo 65,537, with the limit 256
 abbrev pub residues : FieldModel (Residue 65537)
@@ -24,25 +25,33 @@ move i a = record { cell = i; amount = a }
 abbrev pub told : List Move
 told = move 0 (pos 3) ∷ move 8 (pos 1) ∷ move 9 (negsuc 1) ∷ []
 
--- the sheet that claims 13 with the values 9, 4 and 17, line by line:
---     (sheet 65537 1 (grid 2 8))
---     (claim (4 0 0) 13)
---     (at 0 (9 0))
---     (at 1 (4 0))
---     (at 2 (17 0))
---     (end)
+-- a line of text, and the lines behind it
+abbrev pub line : List ℕ → List ℕ → List ℕ
+line text more = text ++ (10 ∷ more)
+
+-- the sheet that claims 13 for the squares, with the values 9, 4 and 17; the count is 14, and the honest values are 9, 5 and 17
 abbrev pub claims13 : List ℕ
 claims13 =
-    40 ∷ 115 ∷ 104 ∷ 101 ∷ 101 ∷ 116 ∷ 32 ∷ 54 ∷ 53 ∷ 53 ∷ 51 ∷ 55 ∷ 32 ∷ 49 ∷ 32 ∷ 40 ∷ 103 ∷ 114 ∷ 105 ∷ 100 ∷ 32 ∷ 50 ∷ 32 ∷ 56 ∷ 41 ∷ 41 ∷ 10
-    ∷ 40 ∷ 99 ∷ 108 ∷ 97 ∷ 105 ∷ 109 ∷ 32 ∷ 40 ∷ 52 ∷ 32 ∷ 48 ∷ 32 ∷ 48 ∷ 41 ∷ 32 ∷ 49 ∷ 51 ∷ 41 ∷ 10
-    ∷ 40 ∷ 97 ∷ 116 ∷ 32 ∷ 48 ∷ 32 ∷ 40 ∷ 57 ∷ 32 ∷ 48 ∷ 41 ∷ 41 ∷ 10
-    ∷ 40 ∷ 97 ∷ 116 ∷ 32 ∷ 49 ∷ 32 ∷ 40 ∷ 52 ∷ 32 ∷ 48 ∷ 41 ∷ 41 ∷ 10
-    ∷ 40 ∷ 97 ∷ 116 ∷ 32 ∷ 50 ∷ 32 ∷ 40 ∷ 49 ∷ 55 ∷ 32 ∷ 48 ∷ 41 ∷ 41 ∷ 10
-    ∷ 40 ∷ 101 ∷ 110 ∷ 100 ∷ 41 ∷ 10 ∷ []
+    line (codes "(sheet 65537 1 (grid 2 8))") (line (codes "(claim (4 0 0) 13)")
+    (line (codes "(at 0 (9 0))") (line (codes "(at 1 (4 0))") (line (codes "(at 2 (17 0))") (line (codes "(end)") [])))))
+
+-- the sheet that claims 0 for the range from 8 to 9, with the values 1, −1 and −13; the count is −1, and the honest values are 0, −1 and −10
+abbrev pub claims0 : List ℕ
+claims0 =
+    line (codes "(sheet 65537 1 (grid 2 8))") (line (codes "(claim (3 8 9) 0)")
+    (line (codes "(at 0 (1 0))") (line (codes "(at 1 (65536 0))") (line (codes "(at 2 (65524 0))") (line (codes "(end)") [])))))
 
 -- judged under the question about squares
 abbrev pub entry13 : Entry (Residue 65537)
 entry13 = record { question = squares_question residues; sheet = claims13 }
+
+-- judged under the question about the range
+abbrev pub entry0 : Entry (Residue 65537)
+entry0 = record { question = range_question residues 8 9; sheet = claims0 }
+
+-- both, as one list of sheets
+abbrev pub mixture : List (Entry (Residue 65537))
+mixture = entry13 ∷ entry0 ∷ []
 
 -- the points 0 and 2
 abbrev pub points : List (Residue 65537)
@@ -55,3 +64,32 @@ pub record BoundReached : Type 0 where
   pub different : Distinct points
   pub fooled : Each (Fooled residues 2 8 told (entry13 ∷ [])) points
   pub bound : false_degrees residues 2 8 told (entry13 ∷ []) ≡ length points
+
+-- the points 0, 2, 1 and −1
+abbrev pub four_points : List (Residue 65537)
+four_points = node residues 0 ∷ node residues 2 ∷ node residues 1 ∷ node residues 65536 ∷ []
+
+-- a tray and a paper, all zeros
+abbrev pub tray : List (Residue 65537)
+tray = replicate 11 residues.zero
+
+abbrev pub paper : List ℕ
+paper = replicate 9216 0
+
+-- what the promise comes to on this board
+pub record WorkedPromise : Type 0 where
+  -- the sheet that claims 13 is accepted at the points 0 and 2, and at no other
+  pub at_zero : Fooled residues 2 8 told (entry13 ∷ []) (node residues 0)
+  pub at_two : Fooled residues 2 8 told (entry13 ∷ []) (node residues 2)
+  pub nowhere_else : (r : Residue 65537) → Fooled residues 2 8 told (entry13 ∷ []) r → (r ≡ node residues 0) ⊎ (r ≡ node residues 2)
+  -- two false sheets together are accepted at no more than the sum of their degrees, which is 4, and there are four such points
+  pub mixed : (rs : List (Residue 65537)) → Distinct rs → Each (Fooled residues 2 8 told mixture) rs → length rs ≤ 4
+  pub different : Distinct four_points
+  pub fooled : Each (Fooled residues 2 8 told mixture) four_points
+  -- there is a host and, at each point, a box that were told the moves; the host answers 14 for the squares, and every box accepts its sheet
+  pub host : SealedHost residues 2 8 told
+  pub box : (r : Residue 65537) → SealedVerifier residues 2 8 told r
+  pub size : ℕ
+  pub answer : (host_gives residues 2 8 told host entry13.question tray paper).answer ≡ Ok (pos 14, size)
+  pub accepted : (r : Residue 65537)
+    → (verifier_gives residues 2 8 told (box r) entry13.question (take size (host_gives residues 2 8 told host entry13.question tray paper).paper) tray).answer ≡ Ok (pos 14)

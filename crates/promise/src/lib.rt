@@ -4,7 +4,7 @@
 ghost use Rattle.promise.specs.Adequacy.{EveryListRuns, SealedRuns, GrantedAnywhere, TestsFalseClaims, NoneOnOneRow};
 ghost use Rattle.promise.specs.Counts.{ValuesAgainstCounts};
 ghost use Rattle.promise.specs.Promise.{Promised};
-ghost use Rattle.promise.specs.WorkedBoard.{BoundReached};
+ghost use Rattle.promise.specs.WorkedBoard.{BoundReached, WorkedPromise};
 
 use field::Field;
 
@@ -51,4 +51,11 @@ pub fn no_false_claim_on_one_row<F: Field>()
 #[tactic(auto, using(crate::proofs::WorkedBoard::bound_reached))]
 pub fn bound_is_reached()
     ensures { BoundReached }
+{}
+
+// What the promise comes to on that board: the sheet's two points are all that it has, two false sheets together are accepted at no more than
+// four points, and an honest host's count is accepted at every point.
+#[tactic(auto, using(crate::proofs::WorkedBoard::worked_promise))]
+pub fn promise_on_the_worked_board()
+    ensures { WorkedPromise }
 {}
