@@ -1,7 +1,6 @@
 -- Steps of the host's loops. Assumes nothing but the laws of the field.
 use Rattle.std.proofs.Common.{◌≡◌, ℕ, zero, suc, ◌+◌, ◌-◌, ◌*◌, ◌<◌, ◌≤◌, List, [], ◌∷◌, ◌++◌, length, get_or, take, drop, set, replicate, ℤ, pos, negsuc, nat_abs, sym, refl, ap, ◌∙◌, ap₂, arith, get_or-drop, get_or-take, w32, SFits}
-use Rattle.field.specs.Field.{FieldModel, LawfulField}
-use Rattle.field.proofs.Solver.{mul-zero, zero-add}
+use Rattle.field.specs.Field.{FieldModel}
 use Rattle.polynomial.specs.Interpolation.{chi}
 use Rattle.polynomial.specs.Lists.{listed}
 use Rattle.polynomial.specs.Sums.{sum_from}
@@ -52,12 +51,6 @@ module _ {K : Type 0} (F : FieldModel K) (b : K) where
       ap₂ ◌∷◌ (ap (λ k. F.add (F.mul (F.image (get_or (f ∷ fs) k (pos 0))) b) (G j)) (sym z))
       (added_listed (suc j) n G fs (omega arith)
       ∙ listed_cong (suc j) n _ _ (λ y p q. let s : y - j ≡ suc (y - suc j) = omega arith in ap (λ k. F.add (F.mul (F.image (get_or (f ∷ fs) k (pos 0))) b) (G y)) (sym s)))
-
--- a row that weighs zero changes nothing
-pub added_zero : {K : Type 0} {F : FieldModel K} (L : LawfulField F) (cs : List K) (fs : List ℤ) → added_row F F.zero cs fs ≡ cs
-added_zero L [] fs = refl
-added_zero L (c ∷ cs) [] = refl
-added_zero {K} {F} L (c ∷ cs) (f ∷ fs) = ap₂ ◌∷◌ (ap (λ x. F.add x c) (mul-zero L.ring (F.image f)) ∙ zero-add L.ring c) (added_zero L cs fs)
 
 -- the columns from the row x on
 abbrev pub columns_from : {K : Type 0} → FieldModel K → ℕ → ℕ → List ℤ → K → ℕ → List K

@@ -8,16 +8,12 @@ use board::fill_cells;
 use field::Field;
 use polynomial::basis_at;
 
-// Adds the counts of one row, each times the row's weight, to the sums of their columns. At a point that is a row itself all other rows weigh zero
-// and are left out: that is half of the points of an answer to the squares.
+// Adds the counts of one row, each times the row's weight, to the sums of their columns.
 fn add_row<F: Field>(sums: &mut [F], counts: &[i32], weight: F)
     requires long { length sums.old ≤ length counts.now }
     requires ranged { Ranged counts.now }
     ensures { sums.new ≡ added_row F.Field.model weight sums.old counts.now }
 {
-    if weight == F::zero() {
-        return;
-    }
     // Counts by place: of writes through `iter_mut().zip(counts)` a proof knows no element.
     for (y, sum) in sums.iter_mut().enumerate() {
         *sum = F::image(counts[y]).product(weight).sum(*sum);
