@@ -1,10 +1,11 @@
 -- Steps of the host's loops. Assumes nothing but the laws of the field.
 use Rattle.std.proofs.Common.{◌≡◌, ℕ, zero, suc, ◌+◌, ◌-◌, ◌*◌, ◌<◌, ◌≤◌, List, [], ◌∷◌, ◌++◌, length, get_or, take, drop, set, replicate, ℤ, pos, negsuc, nat_abs, sym, refl, ap, ◌∙◌, ap₂, arith, get_or-drop, get_or-take, w32, SFits}
-use Rattle.field.specs.Field.{FieldModel}
-use Rattle.polynomial.specs.Interpolation.{chi}
+use Rattle.field.specs.Field.{FieldModel, LawfulField}
+use Rattle.polynomial.specs.Interpolation.{node, chi}
 use Rattle.polynomial.specs.Lists.{listed}
 use Rattle.polynomial.specs.Sums.{sum_from}
-use Rattle.polynomial.specs.Columns.{count_at}
+use Rattle.polynomial.specs.Columns.{count_at, columns, row}
+use Rattle.polynomial.proofs.Columns.{extension}
 use Rattle.polynomial.proofs.Sums.{listed_cong}
 use Rattle.board.specs.Banks.{filled}
 use Rattle.host.specs.Rows.{added_row}
@@ -71,6 +72,10 @@ columns_more F h v fs X x row b l e =
     ∙ listed_cong 0 v _ _ (λ y p q. let z : y - 0 ≡ y = omega arith in
     ap (λ n. F.add (F.mul (F.image n) (chi F h x X)) (sum_from F (suc x) (h - suc x) (λ k. F.mul (count_at F v fs y k) (chi F h k X)))) (ap (λ k. get_or row k (pos 0)) z ∙ e y (omega arith))
     ∙ ap (λ n. sum_from F x n (λ k. F.mul (count_at F v fs y k) (chi F h k X))) (sym s))
+
+-- at a row the columns are the images of its counts
+pub columns_at_row : {K : Type 0} {F : FieldModel K} (L : LawfulField F) (h v : ℕ) (fs : List ℤ) (x : ℕ) → h ≤ 65537 → x < h → row F v fs x ≡ columns F h v fs (node F x)
+columns_at_row L h v fs x most inside = listed_cong 0 v _ _ (λ y p q. sym ((extension L h v fs y most).at_rows x inside))
 
 pub row_at : (fs : List ℤ) (a v y : ℕ) → y < v → get_or (take v (drop a fs)) y (pos 0) ≡ get_or fs (a + y) (pos 0)
 row_at fs a v y h = get_or-take v (drop a fs) y (pos 0) h ∙ get_or-drop a fs y (pos 0)

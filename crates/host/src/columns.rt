@@ -1,12 +1,13 @@
-// The columns of the counts at a point.
-ghost use Rattle.std.specs.Prelude.{◌≡◌, ◌≤◌, length};
-ghost use Rattle.polynomial.specs.Columns.{columns};
+// The columns of the counts at a node. At a row they are its counts; at the other nodes each row has a weight.
+ghost use Rattle.std.specs.Prelude.{◌≡◌, ◌<◌, ◌≤◌, length};
+ghost use Rattle.polynomial.specs.Columns.{columns, row};
+ghost use Rattle.polynomial.specs.Interpolation.{node};
 ghost use Rattle.host.specs.Rows.{added_row, Ranged};
 
 use crate::counts::Counts;
 use board::fill_cells;
 use field::Field;
-use polynomial::basis_at;
+use polynomial::{basis_at, node_at};
 
 // Adds the counts of one row, each times the row's weight, to the sums of their columns.
 fn add_row<F: Field>(sums: &mut [F], counts: &[i32], weight: F)
@@ -21,7 +22,7 @@ fn add_row<F: Field>(sums: &mut [F], counts: &[i32], weight: F)
 }
 
 // Fills `sums` with the columns of the counts at a point. The weight of a row is computed once.
-pub(crate) fn fill_columns<F: Field>(sums: &mut [F], counts: &Counts<'_>, point: F)
+fn fill_columns<F: Field>(sums: &mut [F], counts: &Counts<'_>, point: F)
     requires { length sums.old ≡ counts.now.grid.columns }
     ensures { sums.new ≡ columns F.Field.model counts.now.grid.rows counts.now.grid.columns counts.now.cells.now point }
 {
@@ -30,5 +31,32 @@ pub(crate) fn fill_columns<F: Field>(sums: &mut [F], counts: &Counts<'_>, point:
     let rows = counts.grid.rows();
     for x in (0..rows).rev() {
         add_row(sums, counts.row(x), basis_at(rows, x, point));
+    }
+}
+
+// Fills `sums` with the images of the counts of row x.
+fn fill_row<F: Field>(sums: &mut [F], counts: &Counts<'_>, x: u32)
+    requires inside { x < counts.now.grid.rows }
+    requires wide { length sums.old ≡ counts.now.grid.columns }
+    ensures { sums.new ≡ row F.Field.model counts.now.grid.columns counts.now.cells.now x }
+{
+    let row = counts.row(x);
+    // By place, as above.
+    for (y, sum) in sums.iter_mut().enumerate() {
+        *sum = F::image(row[y]);
+    }
+}
+
+// Fills `sums` with the columns of the counts at the node x. At a row no weight is computed: that is half of the nodes of an answer.
+#[tactic(auto, using(crate::proofs::Steps::columns_at_row))]
+pub(crate) fn fill_columns_at<F: Field>(sums: &mut [F], counts: &Counts<'_>, x: u32)
+    requires few { x ≤ 252 }
+    requires wide { length sums.old ≡ counts.now.grid.columns }
+    ensures { sums.new ≡ columns F.Field.model counts.now.grid.rows counts.now.grid.columns counts.now.cells.now (node F.Field.model x) }
+{
+    if x < counts.grid.rows() {
+        fill_row(sums, counts, x);
+    } else {
+        fill_columns(sums, counts, node_at(x));
     }
 }

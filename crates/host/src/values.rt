@@ -4,7 +4,7 @@ ghost use Rattle.polynomial.specs.Columns.{columns};
 ghost use Rattle.polynomial.specs.Interpolation.{node};
 ghost use Rattle.protocol.specs.Asking.{honest};
 
-use crate::columns::fill_columns;
+use crate::columns::fill_columns_at;
 use crate::counts::Counts;
 use field::Field;
 use polynomial::node_at;
@@ -24,8 +24,8 @@ pub(crate) fn fill_values<F: Field, Q: Question<F>>(
     let (values, rest) = tray.split_at_mut(asked.degree as usize + 1);
     let columns = &mut rest[..asked.grid.columns() as usize];
     for (j, value) in values.iter_mut().enumerate() {
-        let point = node_at(j as u32);
-        fill_columns(columns, counts, point);
-        *value = asked.question.rule(asked.grid, point, columns);
+        let x = j as u32;
+        fill_columns_at(columns, counts, x);
+        *value = asked.question.rule(asked.grid, node_at(x), columns);
     }
 }

@@ -15,10 +15,10 @@ loop-j-preserved g c =
     let fs = c.args.counts.now.cells.now in
     let j = c.loop-j.j in
     let inv = c.loop-j.invariant in
-    let now-is : c.fill_columns.new.sums ≡ columns F h v fs (node F j) =
-    c.fill_columns.ensures ∙ ap₂ (λ k p. columns F k.rows k.columns fs p) c.requires.grid c.node_at-point.ensures in
-    let size : length c.fill_columns.new.sums ≡ v = ap length now-is ∙ length-listed 0 v _ in
-    let value : c.rule.result ≡ q.rule h v (node F j) (columns F h v fs (node F j)) = c.rule.ensures ∙ ap₂ (q.rule h v) c.node_at-point.ensures now-is in
+    let now-is : c.fill_columns_at.new.sums ≡ columns F h v fs (node F j) =
+    c.fill_columns_at.ensures ∙ ap (λ k. columns F k.rows k.columns fs (node F j)) c.requires.grid in
+    let size : length c.fill_columns_at.new.sums ≡ v = ap length now-is ∙ length-listed 0 v _ in
+    let value : c.rule.result ≡ q.rule h v (node F j) (columns F h v fs (node F j)) = c.rule.ensures ∙ ap₂ (q.rule h v) c.node_at.ensures now-is in
     let old = c.split_at_mut-values.result.0.now in
     let more = listed_more (λ k. q.rule h v (node F k) (columns F h v fs (node F k))) j old c.rule.result (omega (arith)) value in
     let back : j ≡ j + 1 - 1 = omega arith in
