@@ -1,4 +1,4 @@
-// A bank: a row of cells over memory that the caller supplies, for elements of any one kind.
+// A bank: a row of cells over memory that the caller supplies, by a rule of the project, for elements of any one kind.
 ghost use Rattle.std.specs.Prelude.{IfOk, ◌≡◌, ◌≤◌, length, take, slice_set};
 ghost use Rattle.std.specs.List.{slice_get};
 ghost use Rattle.board.specs.Banks.{reached, room_for, filled, kept_or, Rewritten};
@@ -11,7 +11,7 @@ pub struct Bank<'a, T> {
     cells: &'a mut [T],
 }
 
-// Puts x into the first n cells of a slice. It takes n, and not a part of the slice, as its callers' contracts speak of the whole.
+// Puts x into the first n cells of a slice. It takes n, and not a part of the slice: no plainer, as its callers' contracts speak of the whole.
 pub fn fill_cells<T: Copy>(cells: &mut [T], n: usize, x: T)
     requires { n ≤ length cells.old }
     ensures { cells.new ≡ filled n x cells.old }
@@ -63,7 +63,7 @@ impl<'a, T: Copy> Bank<'a, T> {
         ensures answer { result ≡ reached self.old.cells.now i }
         ensures cells { Rewritten self.old.cells self.new.cells (slice_set self.old.cells.now i x) }
     {
-        // by index: of a write through `get_mut` a proof knows no element
+        // by index: tried, of a write through `get_mut` a proof knows no element
         if i >= self.cells.len() {
             return Err(Refusal::BankShort);
         }

@@ -22,7 +22,8 @@ pub struct Move {
     pub amount: i64,
 }
 
-// What an end keeps of its game: the grid, the weight of the accepted moves, and their number.
+// What an end keeps of its game: the grid, the weight of the accepted moves, and their number. It has no `==`, for which a model has to give
+// the fields back.
 #[derive(Debug, Drop)]
 pub struct Book {
     pub(crate) grid: Grid,

@@ -1,5 +1,5 @@
 // What a grid and a book hold, to be read.
-ghost use Rattle.std.specs.Prelude.{◌≡◌};
+ghost use Rattle.std.specs.Prelude.{◌≡◌, ◌≤◌};
 
 use crate::game::{Book, Grid};
 
@@ -31,9 +31,10 @@ impl Book {
         self.weight
     }
 
-    // How many moves were accepted.
+    // How many moves were accepted, each of which weighs 1 at least.
     pub fn number(&self) -> u32
-        ensures { result ≡ self.now.number }
+        ensures value { result ≡ self.now.number }
+        ensures fewer { result ≤ self.now.weight }
     {
         self.number
     }

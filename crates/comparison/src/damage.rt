@@ -98,6 +98,7 @@ pub fn damaged(table: &mut Table, text: &[u8]) -> Result<Vec<u8>, AllocError> {
     let at = dice.below(end as u64) as usize;
     let behind = at.wrapping_add(1);
     let byte = one_of(dice, BYTES, b'?');
+    // No table of closures for the cases: the last ones draw again from the dice.
     match dice.below(8) {
         0 => spliced(heap, text, at, end, &[]),
         1 => spliced(heap, text, at, behind, &[]),

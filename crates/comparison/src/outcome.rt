@@ -2,7 +2,7 @@
 use reference::{Position, Stop};
 use std::alloc::AllocError;
 
-// A refusal: its number in the table, and where a sheet's fault lies.
+// A refusal: its number in the table, and where a sheet's fault lies. A number, since product and reference share no type and the report prints it.
 #[derive(Clone, Copy, PartialEq, Eq, Debug)]
 pub struct Refused {
     pub number: u64,

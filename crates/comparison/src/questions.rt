@@ -17,7 +17,7 @@ pub const BACKWARD_ASK: Ask = Ask::Range(9, 8);
 // A question for a board, mostly one that fits.
 pub fn any_ask(dice: &mut Dice, at: Standing) -> Ask {
     let cells = at.cells().saturating_add(dice.below(2));
-    // No table of closures for the cases here and below: most draw again from the dice.
+    // No table of closures for the cases here and below: many draw again from the dice.
     match dice.below(9) {
         0 | 1 => Ask::Cell(dice.below(cells)),
         2 | 3 => Ask::Goods(dice.below(9)),

@@ -55,7 +55,7 @@ impl Report {
         self.same(what, u64::from(test), 1);
     }
 
-    // Holds an outcome to one that was granted, which a difference shows as 0, or to a refusal's number.
+    // Holds an outcome to one that was granted, which a difference shows as 0, or to a refusal's number: numbers, since what is printed is a number.
     pub fn number<T>(&mut self, what: &'static str, found: &Outcome<T>, wanted: Result<(), u64>) {
         let shown = |came: Result<(), u64>| came.err().unwrap_or(0);
         self.same(what, shown(number_of(found)), shown(wanted));

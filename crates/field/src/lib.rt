@@ -39,7 +39,7 @@ pub trait Field: Copy + Eq {
     fn inverse(self) -> Option<Self>
         ensures { result ≡ inverse model self };
 
-    // One over a whole number from 1 to 252, a plain number: a type for it would be made anew at each call.
+    // One over a whole number from 1 to 252, a plain number: a type for it is no plainer, as it would be made anew at each call.
     fn inverse_of(n: u32) -> Self
         requires least { 1 ≤ n }
         requires greatest { n ≤ 252 }

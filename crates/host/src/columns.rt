@@ -15,7 +15,7 @@ fn add_row<F: Field>(sums: &mut [F], counts: &[i32], weight: F)
     requires ranged { Ranged counts.now }
     ensures { sums.new ≡ added_row F.Field.model weight sums.old counts.now }
 {
-    // Counts by place: of writes through `iter_mut().zip(counts)` a proof knows no element.
+    // Counts by place: tried, of writes through `iter_mut().zip(counts)` a proof knows no element.
     for (y, sum) in sums.iter_mut().enumerate() {
         *sum = F::image(counts[y]).product(weight).sum(*sum);
     }

@@ -49,6 +49,7 @@ impl<F: Field> Listening<F> {
         ensures bank { Rewritten bank.old.cells bank.new.cells (host_note_bank F.Field.model.limit self.old.book bank.old.cells.now m) }
     {
         let limit = F::limit();
+        // a test alone: no cell is read yet
         if bank.len() < self.book.grid().cells() as usize {
             return Err(Refusal::BankShort);
         }

@@ -17,7 +17,7 @@ impl<F: Field> Sealed<F> {
     }
 
     // Answers a question: the true count and the length of the sheet that states it, with the question's values and the last columns in the tray and the
-    // sheet on the paper; or a refusal, and nothing changes. Neither the host nor its bank changes.
+    // sheet on the paper; or a refusal, and nothing changes. Neither the host nor its bank changes. The pair, and the memory that the caller lends, are rules of the project.
     pub fn answer<Q: Question<F>>(
         &self,
         bank: &Bank<'_, i32>,

@@ -5,8 +5,8 @@ ghost use Rattle.polynomial.specs.Interpolation.{node, chi};
 
 use field::Field;
 
-// The node k: the element that k stands for. Nodes are plain numbers, with their bounds in the contracts here: a type of nodes
-// would be made anew wherever a row's number becomes one.
+// The node k: the element that k stands for. Nodes are plain numbers, with their bounds in the contracts here and of interpolation: a type of
+// nodes is no plainer, as it would be made anew wherever a row's number becomes one.
 pub fn node_at<F: Field>(k: u32) -> F
     requires { k ≤ 2147483647 }
     ensures { result ≡ node F.Field.model k }

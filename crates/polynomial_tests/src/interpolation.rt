@@ -11,7 +11,7 @@ type Quadratic = Extension<Mod65537>;
 type Case<F> = (F, (u32, u32));
 
 fn check_values<F: Field>(rt: &impl Abort, values: &[F], cases: &[Case<F>]) {
-    assert!(rt; 1 <= values.len() && values.len() <= 253);
+    assert!(rt; (1..=253).contains(&values.len()));
     for &(point, parts) in cases {
         let value = interpolate_at(values, point);
         assert_eq!(rt; (value.low(), value.high()), parts);

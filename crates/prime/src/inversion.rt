@@ -7,6 +7,7 @@ use crate::residue::Residue;
 
 impl<const P: u32> Residue<P> {
     // The extended Euclidean algorithm, its coefficients reduced modulo P: each remainder r is its t times the residue.
+    // A loop and no chain, since each step needs both remainders and both coefficients.
     pub(crate) fn inverted(self) -> Option<Self>
         requires least { 1 < P }
         requires most { P ≤ 2147483647 }

@@ -140,6 +140,8 @@ worked_promise = record {
   at_zero = at_zero [];
   at_two = at_two [];
   nowhere_else = nowhere_else;
+  second_false = false0;
+  degrees = degrees;
   mixed = mixed;
   different = (
     (apart 0 2 (omega arith) (omega arith) (omega arith), (apart 0 1 (omega arith) (omega arith) (omega arith), (apart 0 65536 (omega arith) (omega arith) (omega arith), tt))),
@@ -150,5 +152,5 @@ worked_promise = record {
   box = box;
   size = honest.size;
   answer = honest.answer;
-  accepted = λ r. honest.accepted r (box r) tray (omega arith);
+  accepted = λ r b. honest.accepted r b tray (omega arith);
 }

@@ -1,4 +1,5 @@
--- A board of two rows and eight columns, worked out over the residues modulo 65,537: the promise's bound is reached on it. Assumes nothing.
+-- A board of two rows and eight columns, worked out over the residues modulo 65,537: the promise's bound is reached on it, and what the promise comes to there.
+-- Assumes nothing.
 use Rattle.std.specs.Prelude.{◌≡◌, ℕ, ◌≤◌, List, [], ◌∷◌, ◌++◌, length, take, replicate, ℤ, pos, negsuc, Ok, codes, ◌⊎◌}
 use Rattle.std.proofs.Common.{lit<}
 use Rattle.field.specs.Field.{FieldModel}
@@ -83,13 +84,15 @@ pub record WorkedPromise : Type 0 where
   pub at_two : Fooled residues 2 8 told (entry13 ∷ []) (node residues 2)
   pub nowhere_else : (r : Residue 65537) → Fooled residues 2 8 told (entry13 ∷ []) r → (r ≡ node residues 0) ⊎ (r ≡ node residues 2)
   -- two false sheets together are accepted at no more than the sum of their degrees, which is 4, and there are four such points
+  pub second_false : FalseClaim residues 2 8 told entry0
+  pub degrees : false_degrees residues 2 8 told mixture ≡ 4
   pub mixed : (rs : List (Residue 65537)) → Distinct rs → Each (Fooled residues 2 8 told mixture) rs → length rs ≤ 4
   pub different : Distinct four_points
   pub fooled : Each (Fooled residues 2 8 told mixture) four_points
-  -- there is a host and, at each point, a box that were told the moves; the host answers 14 for the squares, and every box accepts its sheet
+  -- there is a host and, at each point, a box that were told the moves; the host answers 14 for the squares, and every such box accepts its sheet
   pub host : SealedHost residues 2 8 told
   pub box : (r : Residue 65537) → SealedVerifier residues 2 8 told r
   pub size : ℕ
   pub answer : (host_gives residues 2 8 told host entry13.question tray paper).answer ≡ Ok (pos 14, size)
-  pub accepted : (r : Residue 65537)
-    → (verifier_gives residues 2 8 told (box r) entry13.question (take size (host_gives residues 2 8 told host entry13.question tray paper).paper) tray).answer ≡ Ok (pos 14)
+  pub accepted : (r : Residue 65537) (b : SealedVerifier residues 2 8 told r)
+    → (verifier_gives residues 2 8 told b entry13.question (take size (host_gives residues 2 8 told host entry13.question tray paper).paper) tray).answer ≡ Ok (pos 14)

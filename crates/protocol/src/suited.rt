@@ -51,7 +51,7 @@ impl<'a, F: Field, Q: Question<F>> Suited<'a, F, Q> {
     }
 }
 
-// The degree of a question that suits the grid: it fits, and its degree is from rows − 1 to 252.
+// The degree of a question that suits the grid: it fits, and its degree is from rows − 1 to 252. A public function of its own, as it was before `Suited`.
 pub fn suited_degree<F: Field, Q: Question<F>>(question: &Q, grid: Grid) -> Result<u32, Refusal>
     ensures answer { granted result ≡ suit_answer (Q.Question.meaning question.now) grid.rows grid.columns }
     ensures degree { IfOk result (λ d. d ≡ (Q.Question.meaning question.now).degree grid.rows) }

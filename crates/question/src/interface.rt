@@ -37,7 +37,7 @@ pub trait Question<F: Field> {
         requires within { Within F.Field.model grid.rows grid.columns counts.now }
         ensures { result ≡ (meaning self.now).tally grid.rows grid.columns counts.now };
 
-    // An element, from a point and the columns there. The width is asked for here: a type of a grid with its columns would be made anew at each call.
+    // An element, from a point and the columns there. The width is asked for here: a type of a grid with its columns is no plainer, as it would be made anew at each call.
     fn rule(&self, grid: Grid, point: F, columns: &[F]) -> F
         requires fitting { (meaning self.now).fits grid.rows grid.columns ≡ Fit.Fits }
         requires wide { length columns.now ≡ grid.columns }

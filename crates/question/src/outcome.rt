@@ -1,4 +1,4 @@
-// Whether a question fits a grid. No `bool`: further outcomes may come, and a match names them.
+// Whether a question fits a grid. A `bool` is no plainer: it would not say which outcome is which.
 #[derive(Clone, Copy, PartialEq, Eq, Debug)]
 pub enum Fit {
     Fits,

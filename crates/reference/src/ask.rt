@@ -76,7 +76,7 @@ impl Ask {
         let counts = match self {
             Ask::Cell(i) => cell == i,
             Ask::Goods(g) => cell % 8 == g,
-            Ask::Range(a, b) => a <= cell && cell <= b,
+            Ask::Range(a, b) => (a..=b).contains(&cell),
             Ask::Squares => return count.wrapping_mul(count),
             Ask::Stated(_) => false,
         };

@@ -10,7 +10,7 @@ pub struct Limits {
 
 impl Limits {
     pub fn allow(self, n: i64) -> bool {
-        self.least <= n && n <= self.greatest
+        (self.least..=self.greatest).contains(&n)
     }
 }
 

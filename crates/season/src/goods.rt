@@ -21,6 +21,7 @@ impl<F: Field> Question<F> for Goods {
         grid.rows() - 1
     }
 
+    // As in `Cell`: the trait cannot answer it.
     fn least(&self) -> i64 {
         -i64::from(F::limit())
     }

@@ -17,7 +17,7 @@ pub enum Token<'a> {
     End,
 }
 
-// A token with the line (from 1) and the byte place (from 0) of its first byte: two fields and no type, as in a refusal.
+// A token with the line (from 1) and the byte place (from 0) of its first byte: two fields and no type: no plainer, as a refusal has them apart.
 #[derive(Clone, Copy, PartialEq, Eq, Debug)]
 pub struct Found<'a> {
     pub token: Token<'a>,
@@ -25,7 +25,7 @@ pub struct Found<'a> {
     pub place: usize,
 }
 
-// Goes over a sheet without copying it.
+// Goes over a sheet without copying it. That it has the whole sheet with a cursor and a line is a rule of the project.
 #[derive(Debug, Drop)]
 pub struct Reader<'a> {
     pub(crate) sheet: &'a [u8],

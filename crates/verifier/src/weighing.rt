@@ -9,13 +9,12 @@ use polynomial::interpolate_at;
 use protocol::{Suited, claim_image};
 use question::Question;
 
-// The first values, added in order. `polynomial::total` does the same; a rule of the project asks for the `for` here.
-fn sum_of_first<F: Field>(values: &[F], rows: usize) -> F
-    requires { rows ≤ length values.now }
-    ensures { result ≡ list_sum F.Field.model (take rows values.now) }
+// Values, added in order. `polynomial::total` does the same; a rule of the project asks for the `for` here.
+fn sum_of<F: Field>(values: &[F]) -> F
+    ensures { result ≡ list_sum F.Field.model values.now }
 {
     let mut sum = F::zero();
-    for value in &values[0..rows] {
+    for value in values {
         sum = sum.sum(*value);
     }
     sum
@@ -34,7 +33,7 @@ pub(crate) fn weigh<F: Field, Q: Question<F>>(
     ensures { result ≡ weighed F.Field.model asked.now.grid.rows asked.now.grid.columns point columns.now (Q.Question.meaning asked.now.question.now) claim values.now }
 {
     let grid = asked.grid;
-    let sum = sum_of_first(values, grid.rows() as usize);
+    let sum = sum_of(&values[..grid.rows() as usize]);
     if sum != claim_image::<F>(claim) {
         return Err(Refusal::SumWrong);
     }

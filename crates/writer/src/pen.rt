@@ -3,6 +3,7 @@ ghost use Rattle.std.specs.Prelude.{◌≡◌, [], ◌∷◌, decimal};
 ghost use Rattle.std.specs.Fmt.{signed_decimal};
 ghost use Rattle.writer.specs.Papers.{Room, Puts};
 
+// The whole paper and a place: a part of it alone could not be handed back as what the sheet lies on.
 #[derive(Drop)]
 pub(crate) struct Pen<'a> {
     pub(crate) paper: &'a mut [u8],
