@@ -1,11 +1,15 @@
 // The prime field of the residues modulo 2,147,483,647.
+ghost use Rattle.std.specs.Prelude.{◌≡◌};
 ghost use Rattle.std.proofs.Common.{lit<};
+ghost use Rattle.field.specs.Field.{LawfulField, LawfulBase};
 ghost use Rattle.prime.specs.Primes.{Prime};
+ghost use Rattle.prime.specs.Residues.{residue_of, prime_field};
 ghost use Rattle.prime.specs.Fields.{modulus_2147483647};
 
 use crate::modulus::Modulus;
 use crate::residue::Residue;
 use crate::table_2147483647::INVERSES;
+use field::{BaseField, Field};
 
 // 2,147,483,647 is a prime; the limit of weights is 46,340, and 2,147,483,646 is no square.
 pub type Mersenne31 = Residue<2147483647>;
@@ -32,4 +36,25 @@ impl Modulus<2147483647> for Residue<2147483647> {
 #[tactic(auto, using(crate::specs::Primality::prime_2147483647))]
 pub fn is_prime_2147483647()
     ensures { Prime 2147483647 }
+{}
+
+// The limit of the weight of a board's moves modulo 2,147,483,647.
+pub fn limit_2147483647() -> u32
+    ensures { result ≡ 46340 }
+{
+    Mersenne31::limit()
+}
+
+// The number modulo 2,147,483,647 that no residue squares to, which makes the extension.
+pub fn non_square_2147483647() -> u32
+    ensures { result ≡ 2147483646 }
+{
+    Mersenne31::non_square().value()
+}
+
+// The residues modulo 2,147,483,647 are a lawful field, and its base.
+#[tactic(auto, using(crate::specs::Fields::lawful_2147483647, crate::specs::Fields::base_2147483647))]
+pub fn is_lawful_2147483647()
+    ensures field { LawfulField (prime_field 2147483647 (lit< tt) 46340) }
+    ensures base { LawfulBase (prime_field 2147483647 (lit< tt) 46340) (residue_of 2147483647 (lit< tt) 2147483646) }
 {}

@@ -1,11 +1,15 @@
 // The prime field of the residues modulo 65,537.
+ghost use Rattle.std.specs.Prelude.{◌≡◌};
 ghost use Rattle.std.proofs.Common.{lit<};
+ghost use Rattle.field.specs.Field.{LawfulField, LawfulBase};
 ghost use Rattle.prime.specs.Primes.{Prime};
+ghost use Rattle.prime.specs.Residues.{residue_of, prime_field};
 ghost use Rattle.prime.specs.Fields.{modulus_65537};
 
 use crate::modulus::Modulus;
 use crate::residue::Residue;
 use crate::table_65537::INVERSES;
+use field::{BaseField, Field};
 
 // 65,537 is a prime; the limit of weights is 256, and 3 is no square.
 pub type Mod65537 = Residue<65537>;
@@ -32,4 +36,25 @@ impl Modulus<65537> for Residue<65537> {
 #[tactic(auto, using(crate::specs::Primality::prime_65537))]
 pub fn is_prime_65537()
     ensures { Prime 65537 }
+{}
+
+// The limit of the weight of a board's moves modulo 65,537.
+pub fn limit_65537() -> u32
+    ensures { result ≡ 256 }
+{
+    Mod65537::limit()
+}
+
+// The number modulo 65,537 that no residue squares to, which makes the extension.
+pub fn non_square_65537() -> u32
+    ensures { result ≡ 3 }
+{
+    Mod65537::non_square().value()
+}
+
+// The residues modulo 65,537 are a lawful field, and its base.
+#[tactic(auto, using(crate::specs::Fields::lawful_65537, crate::specs::Fields::base_65537))]
+pub fn is_lawful_65537()
+    ensures field { LawfulField (prime_field 65537 (lit< tt) 256) }
+    ensures base { LawfulBase (prime_field 65537 (lit< tt) 256) (residue_of 65537 (lit< tt) 3) }
 {}
