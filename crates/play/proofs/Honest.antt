@@ -14,16 +14,15 @@ use Rattle.protocol.specs.Asking.{honest}
 use Rattle.polynomial.proofs.Sums.{length-listed}
 use Rattle.question.specs.Question.{QuestionModel}
 use Rattle.host.specs.Calls.{host_open_answer}
-use Rattle.host.specs.Notes.{HostState, host_noted, host_after}
 use Rattle.verifier.specs.Calls.{verifier_open_answer}
-use Rattle.verifier.specs.Notes.{VerifierState, verifier_noted, verifier_after}
 use Rattle.promise.specs.Claims.{true_count}
 use Rattle.promise.specs.Ends.{HostOpening, host_end, VerifierOpening, verifier_end}
 use Rattle.promise.specs.Promise.{Promised}
-use Rattle.promise.specs.Runs.{noting, sealing, listening, sealed, begun, after}
+use Rattle.promise.specs.Runs.{noting, sealing, begun, after}
 use Rattle.promise.specs.Sealed.{SealedHost, SealedVerifier}
 use Rattle.promise.specs.Shapes.{whole, complete}
 use Rattle.promise.proofs.Shapes.{runs_of}
+use Rattle.play.proofs.Adequacy.{host_sealed, verifier_sealed}
 use Rattle.play.specs.Trials.{host_given, judged_sheet, told_host, told_box, box_trial, host_trial, trial, InOrder}
 
 -- an open on an allowed grid with cells enough is granted
@@ -32,15 +31,6 @@ open_granted h v n bank allowed long =
     ap (λ b. cond b (room_for n bank) (Err GridOutside)) allowed ∙ ap (λ b. cond b (Ok tt) (Err BankShort)) (le-leb n (length bank) long)
 
 module _ {K : Type 0} (F : FieldModel K) where
-  -- an end that was told moves and sealed
-  host_sealed : (x : HostState) (ms : List Move) → after (host_end F) (listening x) (map noting ms ++ (sealing ∷ [])) ≡ sealed (host_after F.limit x ms)
-  host_sealed x [] = refl
-  host_sealed x (m ∷ ms) = host_sealed (host_noted F.limit x m) ms
-
-  verifier_sealed : (x : VerifierState K) (ms : List Move) → after (verifier_end F) (listening x) (map noting ms ++ (sealing ∷ [])) ≡ sealed (verifier_after F x ms)
-  verifier_sealed x [] = refl
-  verifier_sealed x (m ∷ ms) = verifier_sealed (verifier_noted F x m) ms
-
   module _ (h v : ℕ) (r : K) (ms : List Move) (q : QuestionModel K) where
     -- the host's run of a trial
     host_run : (counts : List ℤ) → host_open_answer h v counts ≡ Ok tt → SealedHost F h v ms
@@ -56,7 +46,7 @@ module _ {K : Type 0} (F : FieldModel K) where
           columns = refl;
           told = done.told;
           host = told_host F h v r ms q counts;
-          ends = ap (λ a. after (host_end F) (begun (host_end F) a o) (map noting ms ++ (sealing ∷ []))) granted ∙ host_sealed ((host_end F).begin o) ms;
+          ends = ap (λ a. after (host_end F) (begun (host_end F) a o) (map noting ms ++ (sealing ∷ []))) granted ∙ host_sealed F ((host_end F).begin o) ms [];
         }
 
     -- the box's run of a trial
@@ -74,7 +64,7 @@ module _ {K : Type 0} (F : FieldModel K) where
           point = refl;
           told = done.told;
           verifier = told_box F h v r ms q sums;
-          ends = ap (λ a. after (verifier_end F) (begun (verifier_end F) a o) (map noting ms ++ (sealing ∷ []))) granted ∙ verifier_sealed ((verifier_end F).begin o) ms;
+          ends = ap (λ a. after (verifier_end F) (begun (verifier_end F) a o) (map noting ms ++ (sealing ∷ []))) granted ∙ verifier_sealed F ((verifier_end F).begin o) ms [];
         }
 
     pub honest_trial : Promised F → (counts : List ℤ) (sums tray : List K) (paper : List ℕ) → InOrder F h v r ms q counts sums tray paper → (trial F h v r ms q counts sums tray paper).answer ≡ Ok (true_count F h v ms q)

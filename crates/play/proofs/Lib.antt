@@ -1,1 +1,2 @@
+pub mod Adequacy
 pub mod Honest

@@ -1,0 +1,43 @@
+-- Trials in order exist, and the runs of the promise are the ends of a trial. Assumes nothing but the laws of the field.
+use Rattle.std.proofs.Common.{◌≡◌, ℕ, suc, ◌+◌, ◌-◌, ◌*◌, List, [], ◌∷◌, ◌++◌, map, pos, refl, arith}
+use lib.ListN.{length-replicate}
+use Rattle.board.specs.declared.game.Move.{Move}
+use Rattle.field.specs.Field.{FieldModel, LawfulField}
+use Rattle.question.proofs.SquaresLaw.{squares_lawful}
+use Rattle.host.specs.Notes.{HostState, host_noted, host_after}
+use Rattle.verifier.specs.Notes.{VerifierState, verifier_noted, verifier_after}
+use Rattle.promise.specs.Runs.{noting, sealing, asking, listening, sealed, after}
+use Rattle.promise.specs.Ends.{Judging, verifier_end, Answering, host_end}
+use Rattle.play.specs.Adequacy.{OrdersMet, RunsAreCalls}
+
+pub orders_met : {K : Type 0} {F : FieldModel K} → LawfulField F → OrdersMet F
+orders_met {K} {F} L h v allowed r ms = record {
+  allowed = allowed;
+  lawful = squares_lawful L;
+  fitting = refl;
+  counts_long = omega (arith, length-replicate (h * v) (pos 0));
+  sums_long = omega (arith, length-replicate v F.zero);
+  tray_long = omega (arith, length-replicate (suc (2 * (h - 1)) + v) F.zero);
+  paper_long = omega (arith, length-replicate {A = ℕ} 9216 0);
+}
+
+module _ {K : Type 0} (F : FieldModel K) where
+  -- what a sealed end is asked changes nothing
+  host_asked : (x : HostState) (qs : List (Answering K)) → after (host_end F) (sealed x) (map asking qs) ≡ sealed x
+  host_asked x [] = refl
+  host_asked x (q ∷ qs) = host_asked x qs
+
+  verifier_asked : (x : VerifierState K) (qs : List (Judging K)) → after (verifier_end F) (sealed x) (map asking qs) ≡ sealed x
+  verifier_asked x [] = refl
+  verifier_asked x (q ∷ qs) = verifier_asked x qs
+
+  pub host_sealed : (x : HostState) (ms : List Move) (qs : List (Answering K)) → after (host_end F) (listening x) (map noting ms ++ (sealing ∷ map asking qs)) ≡ sealed (host_after F.limit x ms)
+  host_sealed x [] qs = host_asked x qs
+  host_sealed x (m ∷ ms) qs = host_sealed (host_noted F.limit x m) ms qs
+
+  pub verifier_sealed : (x : VerifierState K) (ms : List Move) (qs : List (Judging K)) → after (verifier_end F) (listening x) (map noting ms ++ (sealing ∷ map asking qs)) ≡ sealed (verifier_after F x ms)
+  verifier_sealed x [] qs = verifier_asked x qs
+  verifier_sealed x (m ∷ ms) qs = verifier_sealed (verifier_noted F x m) ms qs
+
+  pub runs_are_calls : RunsAreCalls F
+  runs_are_calls = record { host = host_sealed; verifier = verifier_sealed }
