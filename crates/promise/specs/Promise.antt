@@ -16,7 +16,7 @@ use Rattle.promise.specs.Ends.{VerifierOpening, Judging, verifier_end, HostOpeni
 use Rattle.promise.specs.Claims.{Entry, true_count, FalseClaim, false_degrees}
 use Rattle.promise.specs.Sealed.{SealedHost, host_gives, judgings, entry_of, ListedRun, Fooled, HonestAnswer}
 
--- the sheet of a lawful question never is longer
+-- paper long enough for the sheet of any lawful question
 abbrev pub LongPaper : List ℕ → Type 0
 LongPaper paper = 9216 ≤ length paper
 
