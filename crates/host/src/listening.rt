@@ -28,7 +28,7 @@ fn add_count(bank: &mut Bank<'_, i32>, limit: u32, m: Move) -> Result<(), Refusa
 }
 
 impl<F: Field> Listening<F> {
-    // Opens a host on a board, with a cell of the bank for each cell of the board, all zero.
+    // Opens a host on a board, with a cell of the bank for each cell of the board, all zero. It takes no grid: that a grid is refused is open's answer.
     pub fn open(rows: u64, columns: u64, bank: &mut Bank<'_, i32>) -> Result<Listening<F>, Refusal>
         ensures answer { granted result ≡ host_open_answer rows columns bank.old.cells.now }
         ensures opened { Opened rows columns result }

@@ -7,7 +7,6 @@ mod telling;
 mod trial;
 
 use field::Field;
-
 pub use trial::{exchange, play_trial};
 
 // On every allowed grid, at every point and for all moves there is a trial in order, with just the memory that is wanted.

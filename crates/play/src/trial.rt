@@ -28,7 +28,7 @@ pub fn exchange<F: Field, Q: Question<F>>(
 
 // Opens a host and a box on the same grid, tells both the moves, seals them, has the host answer the question and the box judge the sheet: the count
 // that the box accepts, or the first refusal. The contract is the whole promise that the two ends make over every run, what this trial answers and
-// leaves in the memory that it was lent, and that a trial in order ends with the true count.
+// leaves in the memory that it was lent (banks, tray and paper apart, by a rule of the project), and that a trial in order ends with the true count.
 pub fn play_trial<F: Field, Q: Question<F>>(
     rows: u64,
     columns: u64,

@@ -115,8 +115,8 @@ box r = (sealed_runs residues).verifier 2 8 allowed told r
 nowhere_else : (r : Residue 65537) → Fooled residues 2 8 told (entry13 ∷ []) r → (r ≡ node residues 0) ⊎ (r ≡ node residues 2)
 nowhere_else r f =
     elim (decided lawful_65537.parts r (node residues 0)) [
-      inl e ↦ inl e.0
-    | inr n ↦ elim (decided lawful_65537.parts r (node residues 2)) [ inl e ↦ inr e.0 | inr m ↦ absurd (too_many n.0 m.0) ]
+      | inl e ↦ inl e.0
+      | inr n ↦ elim (decided lawful_65537.parts r (node residues 2)) [ inl e ↦ inr e.0 | inr m ↦ absurd (too_many n.0 m.0) ]
     ]
   where
     too_many : r ≢ node residues 0 → r ≢ node residues 2 → ⊥
@@ -145,7 +145,7 @@ worked_promise = record {
   mixed = mixed;
   different = (
     (apart 0 2 (omega arith) (omega arith) (omega arith), (apart 0 1 (omega arith) (omega arith) (omega arith), (apart 0 65536 (omega arith) (omega arith) (omega arith), tt))),
-    ((apart 2 1 (omega arith) (omega arith) (omega arith), (apart 2 65536 (omega arith) (omega arith) (omega arith), tt)), ((apart 1 65536 (omega arith) (omega arith) (omega arith), tt), (tt, tt)))
+    ((apart 2 1 (omega arith) (omega arith) (omega arith), (apart 2 65536 (omega arith) (omega arith) (omega arith), tt)), ((apart 1 65536 (omega arith) (omega arith) (omega arith), tt), (tt, tt))),
   );
   fooled = (at_zero (entry0 ∷ []), (at_two (entry0 ∷ []), (at_one, (at_minus_one, tt))));
   host = host;

@@ -95,4 +95,4 @@ pub record WorkedPromise : Type 0 where
   pub size : ℕ
   pub answer : (host_gives residues 2 8 told host entry13.question tray paper).answer ≡ Ok (pos 14, size)
   pub accepted : (r : Residue 65537) (b : SealedVerifier residues 2 8 told r)
-    → (verifier_gives residues 2 8 told b entry13.question (take size (host_gives residues 2 8 told host entry13.question tray paper).paper) tray).answer ≡ Ok (pos 14)
+      → (verifier_gives residues 2 8 told b entry13.question (take size (host_gives residues 2 8 told host entry13.question tray paper).paper) tray).answer ≡ Ok (pos 14)

@@ -26,7 +26,7 @@ fn add_share<F: Field>(bank: &mut Bank<'_, F>, grid: Grid, point: F, m: Move) ->
 }
 
 impl<F: Field> Listening<F> {
-    // Opens a box on a board at a secret point, with a cell of the bank for each column, all zero.
+    // Opens a box on a board at a secret point, with a cell of the bank for each column, all zero. It takes no grid: that a grid is refused is open's answer.
     pub fn open(
         rows: u64,
         columns: u64,

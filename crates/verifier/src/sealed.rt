@@ -26,13 +26,6 @@ impl<F: Field> Sealed<F> {
     ) -> Result<i64, Refusal>
         ensures { record { answer = result; tray = tray.new } ≡ judged F.Field.model self.now.book.rows self.now.book.columns self.now.point bank.now.cells.now (Q.Question.meaning question.now) sheet.now tray.old }
     {
-        judge_cells(
-            self.book.grid(),
-            self.point,
-            bank,
-            question,
-            sheet,
-            tray,
-        )
+        judge_cells(self.book.grid(), self.point, bank, question, sheet, tray)
     }
 }

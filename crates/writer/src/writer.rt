@@ -38,7 +38,8 @@ impl Pen<'_> {
     }
 }
 
-// Puts the sheet of a claim and values at the start of the paper, on which there is room for it, and returns its length.
+// Puts the sheet of a claim and values at the start of the paper, on which there is room for it, and returns its length. Here and below the terms are
+// apart from the claim and the values: a question gives the one, and its count and its polynomial the others.
 fn put_sheet<F: Field>(paper: &mut [u8], terms: &Terms, claim: i64, values: &[F]) -> usize
     requires { length (text F.Field.model terms.now claim values.now) ≤ length paper.old }
     ensures { Lays (text F.Field.model terms.now claim values.now) paper.old 0 paper.new result }
