@@ -1,8 +1,7 @@
 -- What a granted open says of the grid and the bank, and what the bank then holds. Assumes nothing.
-use Rattle.std.proofs.Common.{IfOk, ◌≡◌, ℕ, ◌%◌, ◌≤◌, Bool, true, false, ◌&&◌, eqb, leb, List, length, take, drop, replicate, Ok, refl, ap, ◌∙◌, subst, arith, length-append, length-drop, eqb-true, leb-true}
+use Rattle.std.proofs.Common.{IfOk, ◌≡◌, ℕ, ◌≤◌, Bool, true, false, leb, List, length, take, drop, replicate, Ok, refl, ap, ◌∙◌, subst, arith, length-append, length-drop, leb-true}
 use lib.ListN.{length-replicate}
 use lib.Seq.{take-append_seam, drop-append_seam}
-use borrow.Author.Tests.{clash}
 use Rattle.board.specs.Banks.{filled, kept_or}
 use Rattle.board.specs.Books.{open_answer, open_bank}
 use Rattle.board.specs.Grids.{grid_allowed}
@@ -33,23 +32,3 @@ take_filled n x cells = subst (λ k. take k (filled n x cells) ≡ replicate n x
 
 pub drop_filled : {A : Type 0} (n : ℕ) (x : A) (cells : List A) → drop n (filled n x cells) ≡ drop n cells
 drop_filled n x cells = subst (λ k. drop k (filled n x cells) ≡ drop n cells) (length-replicate n x) (drop-append_seam (replicate n x) (drop n cells))
-
--- an allowed grid: 1 to 64 rows, 8 to 1,024 columns in eighths
-pub record Wide (h v : ℕ) : Type 0 where
-  pub rows_least : 1 ≤ h
-  pub rows_most : h ≤ 64
-  pub columns_least : 8 ≤ v
-  pub columns_most : v ≤ 1024
-  pub eighths : v % 8 ≡ 0
-
-pub wide : (h v : ℕ) → grid_allowed h v ≡ true → Wide h v
-wide h v e = go (leb 1 h) (leb h 64) (leb 8 v) (leb v 1024) (eqb (v % 8) 0) refl refl refl refl refl e
-  where
-    go : (a b c d f : Bool) → leb 1 h ≡ a → leb h 64 ≡ b → leb 8 v ≡ c → leb v 1024 ≡ d → eqb (v % 8) 0 ≡ f → (a && (b && (c && (d && f)))) ≡ true → Wide h v
-    go false b c d f p q r s t e = absurd (clash e)
-    go true false c d f p q r s t e = absurd (clash e)
-    go true true false d f p q r s t e = absurd (clash e)
-    go true true true false f p q r s t e = absurd (clash e)
-    go true true true true false p q r s t e = absurd (clash e)
-    go true true true true true p q r s t e =
-        record { rows_least = leb-true _ _ p; rows_most = leb-true _ _ q; columns_least = leb-true _ _ r; columns_most = leb-true _ _ s; eighths = eqb-true _ _ t }

@@ -5,7 +5,7 @@ use Rattle.field.specs.Field.{FieldModel, LawfulField, InRange, same}
 use Rattle.field.proofs.Sameness.{same_true, same_eq}
 use Rattle.board.specs.declared.refusal.Refusal.{Refusal}
 use Rattle.board.specs.declared.refusal.Refusal.TheVariants.{BankShort, QuestionUnfit, TrayShort}
-use Rattle.board.proofs.Opens.{wide}
+use Rattle.board.proofs.Grids.{allowed_grid}
 use Rattle.polynomial.specs.Sums.{list_sum}
 use Rattle.polynomial.specs.Polynomials.{eval}
 use Rattle.polynomial.specs.Interpolation.{interpolant}
@@ -84,7 +84,7 @@ module _ {K : Type 0} {F : FieldModel K} (L : LawfulField F) where
     -- the numbers of its sheets have at most ten digits
     ten_digits : TenDigits (terms_of q h v)
     ten_digits =
-        let grid = wide h v (fit).grid in
+        let grid = allowed_grid h v (fit).grid in
         record {
           rows_fit = omega (arith, grid.rows_most);
           columns_fit = omega (arith, grid.columns_most);

@@ -6,7 +6,7 @@ use Rattle.field.specs.Field.{FieldModel, LawfulField, InRange, modulo}
 use Rattle.field.proofs.Consequences.{image-sub}
 use Rattle.field.proofs.Sameness.{decided}
 use Rattle.field.proofs.Solver.{sides, solve}
-use Rattle.board.proofs.Opens.{wide}
+use Rattle.board.proofs.Grids.{allowed_grid}
 use Rattle.polynomial.specs.Lists.{Each, Distinct}
 use Rattle.polynomial.specs.Sums.{list_sum}
 use Rattle.polynomial.specs.Polynomials.{sub, eval, scaled, sum}
@@ -71,7 +71,7 @@ module _ {K : Type 0} {F : FieldModel K} (L : LawfulField F) where
 
     -- ---- the degree
     rows_most : h ≤ 64
-    rows_most = (wide h v fit.grid).rows_most
+    rows_most = (allowed_grid h v fit.grid).rows_most
 
     pub degree_small : q.degree h ≤ 252
     degree_small = omega (arith, rows_most, Q.degree_most h v fit)

@@ -1,5 +1,6 @@
 -- What a question that suits a grid keeps to. Assumes nothing.
 use Rattle.std.proofs.Common.{◌≡◌, ℕ, suc, ◌≤◌, Bool, true, false, cond, ◌&&◌, leb, Ok, Err, Result, refl, arith, leb-true}
+use Rattle.std.proofs.lemmas.Bool.{and_parts}
 use borrow.Author.Tests.{clash}
 use Rattle.board.specs.declared.refusal.Refusal.{Refusal}
 use Rattle.board.specs.declared.refusal.Refusal.TheVariants.{QuestionUnfit}
@@ -20,13 +21,10 @@ is_fit_lem fit.DoesNotFit e = absurd (clash e)
 
 module _ {K : Type 0} (q : QuestionModel K) (h v : ℕ) where
   pub suited : suits q h v ≡ true → Suited q h v
-  suited e = go (is_fit (q.fits h v)) (leb h (suc (q.degree h))) (leb (q.degree h) 252) refl refl refl e
-    where
-      go : (a b c : Bool) → is_fit (q.fits h v) ≡ a → leb h (suc (q.degree h)) ≡ b → leb (q.degree h) 252 ≡ c → (a && (b && c)) ≡ true → Suited q h v
-      go false b c p r s e = absurd (clash e)
-      go true false c p r s e = absurd (clash e)
-      go true true false p r s e = absurd (clash e)
-      go true true true p r s e = record { fits = is_fit_lem (q.fits h v) p; degree_least = leb-true _ _ r; degree_most = leb-true _ _ s }
+  suited e =
+      let (a, e) = and_parts _ _ e in
+      let (b, c) = and_parts _ _ e in
+      record { fits = is_fit_lem (q.fits h v) a; degree_least = leb-true _ _ b; degree_most = leb-true _ _ c }
 
   -- a question is granted just where it suits, and is refused in one way
   pub suit_granted : (u : Unit {0}) → suit_answer q h v ≡ Ok u → suits q h v ≡ true

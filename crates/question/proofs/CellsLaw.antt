@@ -20,7 +20,8 @@ use Rattle.question.specs.declared.outcome.Fit.TheVariants as fit
 use Rattle.board.specs.declared.tag.Tag.{Tag}
 use Rattle.question.specs.Question.{SmallTag, LawfulQuestion}
 use Rattle.question.specs.Cells.{cells_tally, cells_rule, cells_question, cell_question, cells_between, range_question}
-use Rattle.question.proofs.Grids.{AllowedGrid, allowed_grid, test_holds, row_below}
+use Rattle.board.proofs.Grids.{AllowedGrid, allowed_grid}
+use Rattle.question.proofs.Grids.{test_holds, row_below}
 use Rattle.question.proofs.Bounds.{abs_least, abs_most, narrow_limit, limit_range, neg_limit_range}
 
 -- ---- the counts at some cells

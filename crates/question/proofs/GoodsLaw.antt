@@ -12,7 +12,7 @@ use Rattle.polynomial.proofs.Sums.{sum_cong, all_cells}
 use Rattle.question.specs.Question.{LawfulQuestion}
 use Rattle.question.specs.GoodsSums.{goods_tally, goods_rule, goods_question}
 use Rattle.question.proofs.Tallies.{cond-abs, goods_abs}
-use Rattle.question.proofs.Grids.{allowed_grid}
+use Rattle.board.proofs.Grids.{allowed_grid}
 use Rattle.question.proofs.Bounds.{abs_least, abs_most, narrow_limit, limit_range, neg_limit_range}
 
 -- a row has a multiple of eight columns, so a cell and its column are of the same goods

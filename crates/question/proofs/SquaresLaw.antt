@@ -13,7 +13,7 @@ use Rattle.polynomial.proofs.Sums.{sum_cong, all_cells}
 use Rattle.question.specs.Question.{LawfulQuestion}
 use Rattle.question.specs.SquareSums.{squares_tally, squares_rule, squares_question}
 use Rattle.question.proofs.Tallies.{squares_sum, square, squares_pos, squares_bound}
-use Rattle.question.proofs.Grids.{allowed_grid}
+use Rattle.board.proofs.Grids.{allowed_grid}
 
 module _ {K : Type 0} {F : FieldModel K} (L : LawfulField F) where
   pub squares_limit : (fs : List ℤ) → abs_sum fs ≤ F.limit → squares_sum fs ≤ F.limit * F.limit

@@ -10,7 +10,8 @@ use Rattle.board.specs.Books.{ledger_standing, entered}
 use Rattle.board.specs.Grids.{grid_allowed, column_of}
 use Rattle.board.specs.Ledger.{Ledger, ledger_start, ledger_enter, ledger_answer, ledger_next, ledger_from, answers_from}
 use Rattle.board.proofs.Ledgers.{Kept, kept_start, kept_next, move_accepted, abs-add, abs_at}
-use Rattle.board.proofs.Opens.{open_granted, opened_bank, length_filled, take_filled, drop_filled, wide}
+use Rattle.board.proofs.Opens.{open_granted, opened_bank, length_filled, take_filled, drop_filled}
+use Rattle.board.proofs.Grids.{allowed_grid}
 use Rattle.field.specs.Field.{FieldModel, LawfulField}
 use Rattle.field.proofs.Consequences.{limit_small}
 use Rattle.field.proofs.Solver.{zero-mul}
@@ -80,7 +81,7 @@ module _ {K : Type 0} {F : FieldModel K} (L : LawfulField F) where
       after_stands (Err x) e = record { bank = bank; is = refl; allowed = allowed; long = long; right = right; behind = behind; kept = kept }
       after_stands (Ok u) e =
           let accepted = move_accepted h v F.limit l.weight m u e in
-          let some = wide h v allowed in
+          let some = allowed_grid h v allowed in
           let inside : column_of v m.cell < v = mod-lt m.cell (omega arith) in
           let at = abs_at l.counts m.cell in
           let small = limit_small L in

@@ -1,4 +1,4 @@
-use Rattle.std.proofs.Common.{◌-◌, take, rules}
+use Rattle.std.proofs.Common.{rules}
 use Rattle.polynomial.proofs.Sums.{list_sum_more}
 use Rattle.verifier.proofs.weighing.sum_of.Goals as goal
 
