@@ -1,6 +1,6 @@
 #!/bin/sh
 # The instructions of one call, by valgrind: those of the program with TIMES calls less those with none, by TIMES.
-# tools/instructions.sh FIELD CALL ROWS COLUMNS TIMES, after `rt run` in crates/bench.
+# tools/instructions.sh FIELD CALL ROWS COLUMNS TIMES, after `rt run` in crates/bench; TIMES from 1.
 set -eu
 bench=$(dirname "$0")/../crates/bench/out/bench
 count() {

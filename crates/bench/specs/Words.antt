@@ -1,4 +1,4 @@
--- the words of fields and calls
+-- The words of fields and calls. Assumes nothing.
 use Rattle.std.specs.Prelude.{◌≡◌, ◌≢◌, ℕ, List, Result, codes, IfOk, OnErr}
 use Rattle.bench.specs.declared.fields.FieldName.{FieldName}
 use Rattle.bench.specs.declared.fields.FieldName.TheVariants.{F65537, M31, F65537x2, M31x2}
@@ -20,12 +20,7 @@ call_word Judge = codes "judge"
 call_word Read = codes "read"
 call_word Write = codes "write"
 
--- a word names the field whose word it is, and no other word names one
-pub record NamesField (word : List ℕ) (r : Result FieldName Mistake) : Type 0 where
-  pub known : IfOk r (λ field. field_word field ≡ word)
-  pub unknown : OnErr r ((field : FieldName) → field_word field ≢ word)
-
--- a word names the call whose word it is, and no other word names one
-pub record NamesCall (word : List ℕ) (r : Result Call Mistake) : Type 0 where
-  pub known : IfOk r (λ call. call_word call ≡ word)
-  pub unknown : OnErr r ((call : Call) → call_word call ≢ word)
+-- a word names what has it as its word, and no other word names anything
+pub record Names {A : Type 0} (word_of : A → List ℕ) (word : List ℕ) (r : Result A Mistake) : Type 0 where
+  pub known : IfOk r (λ x. word_of x ≡ word)
+  pub unknown : OnErr r ((x : A) → word_of x ≢ word)

@@ -7,12 +7,8 @@ use field::Field;
 use season::Squares;
 use std::alloc::Global;
 
-pub fn answer<F: Field>(
-    heap: Global,
-    grid: Grid,
-    times: u32,
-    tally: &mut Tally,
-) -> anyhow::Result<()> {
+pub fn answer<F: Field>(heap: Global, grid: Grid, times: u32) -> anyhow::Result<Tally> {
+    let mut tally = Tally::new();
     let mut counts = vec![in heap; 0i32; grid.cells() as usize]?;
     let mut bank = Bank::new(counts.as_mut_slice());
     let host = sealed_host::<F>(grid, &mut bank)?;
@@ -32,5 +28,5 @@ pub fn answer<F: Field>(
     }
     tally.values(tray.as_slice());
     tally.bytes(written(paper.as_slice(), last));
-    Ok(())
+    Ok(tally)
 }

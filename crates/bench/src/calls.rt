@@ -1,6 +1,6 @@
 // The calls by name.
 ghost use Rattle.std.specs.Prelude.{◌≡◌};
-ghost use Rattle.bench.specs.Words.{NamesCall, call_word};
+ghost use Rattle.bench.specs.Words.{Names, call_word};
 
 use crate::mistakes::Mistake;
 use std::fmt;
@@ -49,9 +49,10 @@ impl Call {
 impl FromStr for Call {
     type Err = Mistake;
 
-    ghost from_str_gives = { NamesCall };
+    ghost from_str_gives = { Names call_word };
 
     fn from_str(word: &str) -> Result<Call, Mistake> {
+        // A match: that ALL leaves none out, and so that a word which `find` misses names none, would be a proof by hand.
         match word {
             "box-note" => Ok(Call::BoxNote),
             "host-note" => Ok(Call::HostNote),

@@ -15,16 +15,14 @@ use std::alloc::Global;
 
 fn done_over<F: Field>(heap: Global, work: Work) -> anyhow::Result<Tally> {
     let Work { grid, times, .. } = work;
-    let mut tally = Tally::new();
     match work.call {
-        Call::BoxNote => note_at_boxes::<F>(heap, grid, times, &mut tally)?,
-        Call::HostNote => note_at_hosts::<F>(heap, grid, times, &mut tally)?,
-        Call::Answer => answer::<F>(heap, grid, times, &mut tally)?,
-        Call::Judge => judge::<F>(heap, grid, times, &mut tally)?,
-        Call::Read => read::<F>(heap, grid, times, &mut tally)?,
-        Call::Write => write::<F>(heap, grid, times, &mut tally)?,
+        Call::BoxNote => note_at_boxes::<F>(heap, grid, times),
+        Call::HostNote => note_at_hosts::<F>(heap, grid, times),
+        Call::Answer => answer::<F>(heap, grid, times),
+        Call::Judge => judge::<F>(heap, grid, times),
+        Call::Read => read::<F>(heap, grid, times),
+        Call::Write => write::<F>(heap, grid, times),
     }
-    Ok(tally)
 }
 
 pub fn done(heap: Global, work: Work) -> anyhow::Result<Tally> {

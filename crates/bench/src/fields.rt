@@ -1,6 +1,6 @@
 // The four fields by name.
 ghost use Rattle.std.specs.Prelude.{◌≡◌};
-ghost use Rattle.bench.specs.Words.{NamesField, field_word};
+ghost use Rattle.bench.specs.Words.{Names, field_word};
 
 use crate::mistakes::Mistake;
 use std::fmt;
@@ -38,9 +38,10 @@ impl FieldName {
 impl FromStr for FieldName {
     type Err = Mistake;
 
-    ghost from_str_gives = { NamesField };
+    ghost from_str_gives = { Names field_word };
 
     fn from_str(word: &str) -> Result<FieldName, Mistake> {
+        // A match: that ALL leaves none out, and so that a word which `find` misses names none, would be a proof by hand.
         match word {
             "f65537" => Ok(FieldName::F65537),
             "m31" => Ok(FieldName::M31),

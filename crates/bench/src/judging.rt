@@ -1,4 +1,4 @@
-// A box's judgements of the sheet of an honest host.
+// A box's judgements of the sheet of an honest host. The loop is written out: see the readings.
 use crate::sheets::{stated, tray};
 use crate::subjects::sealed_box;
 use crate::tally::Tally;
@@ -7,12 +7,8 @@ use field::Field;
 use season::Squares;
 use std::alloc::Global;
 
-pub fn judge<F: Field>(
-    heap: Global,
-    grid: Grid,
-    times: u32,
-    tally: &mut Tally,
-) -> anyhow::Result<()> {
+pub fn judge<F: Field>(heap: Global, grid: Grid, times: u32) -> anyhow::Result<Tally> {
+    let mut tally = Tally::new();
     let stated = stated::<F>(heap, grid)?;
     let mut sums = vec![in heap; F::zero(); grid.columns() as usize]?;
     let mut bank = Bank::new(sums.as_mut_slice());
@@ -28,5 +24,5 @@ pub fn judge<F: Field>(
         tally.claim(found, tray.as_slice(), turn);
     }
     tally.values(tray.as_slice());
-    Ok(())
+    Ok(tally)
 }

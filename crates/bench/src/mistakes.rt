@@ -1,4 +1,5 @@
-// What is wrong with the words that the program is run with.
+// What is wrong with the words that the program is run with. The words of fields and calls stand here again: their readings answer a mistake, so they stand
+// above it.
 use std::error::Error;
 use std::fmt;
 

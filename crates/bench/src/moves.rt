@@ -1,13 +1,15 @@
 // Moves that look random and are the same in every run.
-ghost use Rattle.std.specs.Prelude.{◌≡◌, ◌*◌, ◌<◌, ◌≤◌, unsigned_abs};
+ghost use Rattle.std.specs.Prelude.{◌≡◌, ◌*◌, ◌<◌, ◌≤◌, ℕ, IsSomeAnd, unsigned_abs};
+ghost use Rattle.std.specs.Iterator.{endless};
 
 use board::{Grid, Move};
 
-// The greatest amount, from 1 to 256, at which so many moves are not too heavy, where there is one.
-pub fn lightest(limit: u32, moves: u32) -> u32
+// The greatest amount, from 1 to 256, at which so many moves are not too heavy; 1 where there is none.
+pub fn heaviest(limit: u32, moves: u32) -> u32
     ensures least { 1 ≤ result }
     ensures most { result ≤ 256 }
     ensures light { moves ≤ limit → moves * result ≤ limit }
+    ensures greatest { (a : ℕ) → a ≤ 256 → moves * a ≤ limit → a ≤ result }
 {
     limit.checked_div(moves).unwrap_or(256).clamp(1, 256)
 }
@@ -44,19 +46,24 @@ impl Moves {
             .wrapping_add(1_442_695_040_888_963_407);
         self.state >> 32
     }
+}
 
-    // The next move.
-    pub fn next(&mut self) -> Move
-        ensures inside { result.cell < self.old.cells }
-        ensures size { unsigned_abs result.amount ≡ self.old.amount }
-        ensures cells { self.new.cells ≡ self.old.cells }
-        ensures amount { self.new.amount ≡ self.old.amount }
-    {
+// There is always a next move.
+impl Iterator for Moves {
+    type Item = Move;
+
+    ghost next_gives = { λ old r new.
+        IsSomeAnd r (λ m. (m.cell < old.cells) × (unsigned_abs m.amount ≡ old.amount))
+        × (new.cells ≡ old.cells) × (new.amount ≡ old.amount) };
+
+    ghost remaining = { λ _. endless };
+
+    fn next(&mut self) -> Option<Move> {
         let drawn = self.draw();
         let size = i64::from(self.amount);
-        Move {
+        Some(Move {
             cell: drawn / 2 % self.cells,
             amount: if drawn % 2 == 0 { size } else { -size },
-        }
+        })
     }
 }

@@ -1,4 +1,5 @@
-// Readings of the sheet of an honest host.
+// Readings of the sheet of an honest host. Judgements and writings have the same shape and texts of their own: a shared loop would take the call as a
+// closure with its contract, longer than the loop.
 use crate::sheets::{stated, tray};
 use crate::tally::Tally;
 use board::Grid;
@@ -8,12 +9,8 @@ use season::Squares;
 use sheet::read_sheet;
 use std::alloc::Global;
 
-pub fn read<F: Field>(
-    heap: Global,
-    grid: Grid,
-    times: u32,
-    tally: &mut Tally,
-) -> anyhow::Result<()> {
+pub fn read<F: Field>(heap: Global, grid: Grid, times: u32) -> anyhow::Result<Tally> {
+    let mut tally = Tally::new();
     let stated = stated::<F>(heap, grid)?;
     let terms = terms_of::<F, Squares>(&Squares, grid);
     let mut tray = tray::<F>(heap, stated.values.len())?;
@@ -22,5 +19,5 @@ pub fn read<F: Field>(
         tally.claim(found, tray.as_slice(), turn);
     }
     tally.values(tray.as_slice());
-    Ok(())
+    Ok(tally)
 }

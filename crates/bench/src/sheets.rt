@@ -32,7 +32,7 @@ pub fn paper(heap: Global) -> Result<Vec<u8>, AllocError> {
     vec![in heap; 0u8; ENOUGH_PAPER]
 }
 
-// The sheet of so many bytes at the front of the paper.
+// The sheet of so many bytes at the front of the paper. Of more bytes than the paper has it would be empty, but a sheet that was written fits its paper.
 pub fn written(paper: &[u8], length: usize) -> &[u8] {
     paper.get(..length).unwrap_or(&[])
 }

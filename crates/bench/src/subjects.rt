@@ -1,5 +1,5 @@
 // The ends that calls are made at: told a few moves, and sealed.
-use crate::moves::{Moves, lightest};
+use crate::moves::{Moves, heaviest};
 use board::{Bank, Grid, Refusal};
 use field::Field;
 
@@ -20,9 +20,11 @@ pub fn secret_point<F: Field>() -> F {
 }
 
 fn few_moves<F: Field>(grid: Grid) -> Moves {
-    Moves::new(grid, lightest(F::limit(), FEW))
+    Moves::new(grid, heaviest(F::limit(), FEW))
 }
 
+// A host and a box are opened, and told moves, alike, but their banks have cells of two kinds: one text for both would need a trait with a type of
+// cells, no plainer than two.
 pub fn open_host<F: Field>(
     grid: Grid,
     bank: &mut Bank<'_, i32>,
@@ -47,9 +49,8 @@ pub fn sealed_host<F: Field>(
     bank: &mut Bank<'_, i32>,
 ) -> Result<host::Sealed<F>, Refusal> {
     let mut host = open_host::<F>(grid, bank)?;
-    let mut moves = few_moves::<F>(grid);
-    for _ in 0..FEW {
-        host.note(bank, moves.next())?;
+    for m in few_moves::<F>(grid).take(FEW as usize) {
+        host.note(bank, m)?;
     }
     Ok(host.seal())
 }
@@ -60,9 +61,8 @@ pub fn sealed_box<F: Field>(
     bank: &mut Bank<'_, F>,
 ) -> Result<verifier::Sealed<F>, Refusal> {
     let mut verifier = open_box(grid, bank)?;
-    let mut moves = few_moves::<F>(grid);
-    for _ in 0..FEW {
-        verifier.note(bank, moves.next())?;
+    for m in few_moves::<F>(grid).take(FEW as usize) {
+        verifier.note(bank, m)?;
     }
     Ok(verifier.seal())
 }

@@ -1,4 +1,4 @@
-// Writings of the sheet of an honest host.
+// Writings of the sheet of an honest host. The loop is written out: see the readings.
 use crate::sheets::{paper, stated, written};
 use crate::tally::Tally;
 use board::Grid;
@@ -8,12 +8,8 @@ use season::Squares;
 use std::alloc::Global;
 use writer::write_sheet;
 
-pub fn write<F: Field>(
-    heap: Global,
-    grid: Grid,
-    times: u32,
-    tally: &mut Tally,
-) -> anyhow::Result<()> {
+pub fn write<F: Field>(heap: Global, grid: Grid, times: u32) -> anyhow::Result<Tally> {
+    let mut tally = Tally::new();
     let stated = stated::<F>(heap, grid)?;
     let terms = terms_of::<F, Squares>(&Squares, grid);
     let mut paper = paper(heap)?;
@@ -34,5 +30,5 @@ pub fn write<F: Field>(
         }
     }
     tally.bytes(written(paper.as_slice(), last));
-    Ok(())
+    Ok(tally)
 }
