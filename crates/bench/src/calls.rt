@@ -52,7 +52,7 @@ impl FromStr for Call {
     ghost from_str_gives = { Names call_word };
 
     fn from_str(word: &str) -> Result<Call, Mistake> {
-        // A match: that ALL leaves none out, and so that a word which `find` misses names none, would be a proof by hand.
+        // A match: of `find` over ALL the check does not prove by itself what the contract says.
         match word {
             "box-note" => Ok(Call::BoxNote),
             "host-note" => Ok(Call::HostNote),

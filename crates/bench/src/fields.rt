@@ -41,7 +41,7 @@ impl FromStr for FieldName {
     ghost from_str_gives = { Names field_word };
 
     fn from_str(word: &str) -> Result<FieldName, Mistake> {
-        // A match: that ALL leaves none out, and so that a word which `find` misses names none, would be a proof by hand.
+        // A match: of `find` over ALL the check does not prove by itself what the contract says.
         match word {
             "f65537" => Ok(FieldName::F65537),
             "m31" => Ok(FieldName::M31),

@@ -1,5 +1,5 @@
-// Readings of the sheet of an honest host. Judgements and writings have the same shape and texts of their own: a shared loop would take the call as a
-// closure with its contract, longer than the loop.
+// Readings of the sheet of an honest host. Judgements and writings have the same shape and texts of their own: a shared loop would have to take the call as a
+// closure, no plainer than the loop.
 use crate::sheets::{stated, tray};
 use crate::tally::Tally;
 use board::Grid;
