@@ -2,8 +2,8 @@
 use Rattle.std.proofs.Common.{◌≡◌, ℕ, ◌+◌, ◌<◌, ◌≤◌, List, [], ◌∷◌, ◌++◌, map, length, get_or, drop, ℤ, Ok, Err, sym, refl, ap, ◌∙◌}
 use Rattle.std.proofs.lemmas.List.{drop_more, drop_all}
 use Rattle.board.specs.declared.refusal.Refusal.{Refusal}
-use Rattle.token.specs.Tokens.{Cursor}
-use Rattle.expect.specs.Dues.{Due, Passed, step, and_then, pass}
+use Rattle.token.specs.Tokens.{Cursor, after_token}
+use Rattle.expect.specs.Dues.{Due, Passed, step, and_then, pass, going_on, passed_to}
 
 -- a pass stops at the first refusal
 pub pass_append : (ds es : List Due) (kept : List ℤ) (s : Cursor) → pass (ds ++ es) kept s ≡ and_then (pass ds kept s) (λ more t. pass es more t)
@@ -25,6 +25,21 @@ module _ {X : Type 0} (f : X → Due) (xs : List X) (i : ℕ) (d : X) (lt : i < 
 
   pub pass_stop : (r : Refusal) → Err r ≡ step (f (get_or xs i d)) kept s → Err r ≡ pass (map f (drop i xs)) kept s
   pass_stop r e = ap (λ o. and_then o (λ more u. pass (map f (drop (i + 1) xs)) more u)) e ∙ sym pass_next
+
+module _ {X : Type 0} (f : X → Due) (xs : List X) (i : ℕ) (d : X) (lt : i < length xs) (s : Cursor) where
+  to_next : passed_to (map f (drop i xs)) s ≡ going_on (step (f (get_or xs i d)) [] s) (passed_to (map f (drop (i + 1) xs)) (after_token s)) (after_token s)
+  unfolding passed_to
+  to_next = ap (λ ys. passed_to (map f ys) s) (drop_more xs i d lt)
+
+  pub to_on : (t : Cursor) → Ok ([], t) ≡ step (f (get_or xs i d)) [] s → passed_to (map f (drop (i + 1) xs)) (after_token s) ≡ passed_to (map f (drop i xs)) s
+  to_on t e = ap (λ o. going_on o (passed_to (map f (drop (i + 1) xs)) (after_token s)) (after_token s)) e ∙ sym to_next
+
+  pub to_stop : (r : Refusal) → Err r ≡ step (f (get_or xs i d)) [] s → after_token s ≡ passed_to (map f (drop i xs)) s
+  to_stop r e = ap (λ o. going_on o (passed_to (map f (drop (i + 1) xs)) (after_token s)) (after_token s)) e ∙ sym to_next
+
+pub to_done : {X : Type 0} (f : X → Due) (xs : List X) (i : ℕ) → length xs ≤ i → (s : Cursor) → s ≡ passed_to (map f (drop i xs)) s
+unfolding passed_to
+to_done f xs i h s = sym (ap (λ ys. passed_to (map f ys) s) (drop_all i xs h))
 
 pub pass_done : {X : Type 0} (f : X → Due) (xs : List X) (i : ℕ) → length xs ≤ i → (kept : List ℤ) (s : Cursor) → Ok (kept, s) ≡ pass (map f (drop i xs)) kept s
 unfolding pass

@@ -93,3 +93,13 @@ and_then (Ok p) f = f p.0 p.1
 unfoldable pub pass : List Due → List ℤ → Cursor → Passed
 pass [] kept s = Ok (kept, s)
 pass (d ∷ ds) kept s = and_then (step d kept s) (λ more t. pass ds more t)
+
+-- behind a token that was wrong the reader stays, and goes on otherwise
+abbrev pub going_on : Passed → Cursor → Cursor → Cursor
+going_on (Ok p) on stop = on
+going_on (Err r) on stop = stop
+
+-- where the reader is after a pass: behind the first token that is wrong, or else behind the last
+unfoldable pub passed_to : List Due → Cursor → Cursor
+passed_to [] s = s
+passed_to (d ∷ ds) s = going_on (step d [] s) (passed_to ds (after_token s)) (after_token s)

@@ -2,7 +2,8 @@
 ghost use Rattle.std.specs.Prelude.{◌≡◌, ◌<◌, List, map, ℤ, ◌≤ℤ◌, IfOk};
 ghost use Rattle.board.specs.declared.refusal.Refusal.{Refusal};
 ghost use Rattle.token.specs.Readers.{token_of};
-ghost use Rattle.expect.specs.Dues.{Due.within as Within, spelled, part_below, check, step, pass};
+ghost use Rattle.token.specs.Tokens.{after_token};
+ghost use Rattle.expect.specs.Dues.{Due.within as Within, spelled, part_below, check, step, pass, passed_to};
 ghost use Rattle.expect.specs.Expectations.{due_of, verdict_of, passed_on, passed_number, passed_part};
 
 use crate::due::Due;
@@ -57,7 +58,8 @@ fn refusal_at(found: Found<'_>, fault: Fault) -> Refusal
 
 // Reads the token that is due.
 fn expect(reader: &mut Reader<'_>, due: Due) -> Result<(), Refusal>
-    ensures { (kept : List ℤ) → passed_on kept result reader.new ≡ step (due_of due) kept reader.old }
+    ensures read { (kept : List ℤ) → passed_on kept result reader.new ≡ step (due_of due) kept reader.old }
+    ensures after { reader.new ≡ after_token reader.old }
 {
     let found = reader.next();
     // tried: the proof did not close with `map_err`, whose closure holds the token
@@ -67,10 +69,11 @@ fn expect(reader: &mut Reader<'_>, due: Due) -> Result<(), Refusal>
     }
 }
 
-// Reads the tokens that are due, in order.
-#[tactic(auto, using(crate::proofs::Passes::pass_done))]
+// Reads the tokens that are due, in order, up to the first that is wrong.
+#[tactic(auto, using(crate::proofs::Passes::pass_done, crate::proofs::Passes::to_done))]
 pub fn pass(reader: &mut Reader<'_>, dues: &[Due]) -> Result<(), Refusal>
-    ensures { (kept : List ℤ) → passed_on kept result reader.new ≡ pass (map due_of dues.now) kept reader.old }
+    ensures read { (kept : List ℤ) → passed_on kept result reader.new ≡ pass (map due_of dues.now) kept reader.old }
+    ensures after { reader.new ≡ passed_to (map due_of dues.now) reader.old }
 {
     for due in dues {
         expect(reader, *due)?;
@@ -86,6 +89,7 @@ pub fn number(
     fault: Fault,
 ) -> Result<i64, Refusal>
     ensures read { (kept : List ℤ) → passed_number kept result reader.new ≡ step (Within least greatest fault) kept reader.old }
+    ensures after { reader.new ≡ after_token reader.old }
     ensures least { IfOk result (λ z. least ≤ℤ z) }
     ensures greatest { IfOk result (λ z. z ≤ℤ greatest) }
 {
@@ -101,6 +105,7 @@ pub fn number(
 // Reads a part below `limit`.
 pub fn part(reader: &mut Reader<'_>, limit: u32) -> Result<u32, Refusal>
     ensures read { (kept : List ℤ) → passed_part kept result reader.new ≡ step (part_below limit) kept reader.old }
+    ensures after { reader.new ≡ after_token reader.old }
     ensures below { IfOk result (λ n. n < limit) }
 {
     let n = number(reader, 0, i64::from(limit) - 1, Fault::Part)?;

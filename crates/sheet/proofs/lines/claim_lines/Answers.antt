@@ -10,7 +10,7 @@ use Rattle.sheet.proofs.lines.claim_lines.Goals as goal
 pub returns-in_err-pass : goal.returns-in_err-pass
 returns-in_err-pass g c =
     let p = err_from_is_err_and c.from_residual.result c.from_residual.ensures.1 in
-    rw (p.1, p.2) (λ kept. stop_first (front c.characteristic.result c.degree.result c.args.terms.now) _ kept _ _ (c.in_err-pass.ensures kept) ∙ claim_as c.characteristic.ensures c.degree.ensures c.args.terms.now kept c.args.reader.now)
+    rw (p.1, p.2) (λ kept. stop_first (front c.characteristic.result c.degree.result c.args.terms.now) _ kept _ _ (c.in_err-pass.ensures.read kept) ∙ claim_as c.characteristic.ensures c.degree.ensures c.args.terms.now kept c.args.reader.now)
 
 pub returns-in_err-claim : goal.returns-in_err-claim
 returns-in_err-claim g c =
@@ -19,7 +19,7 @@ returns-in_err-claim g c =
     let lo = to_z w64 (of_z w64 t.least) in
     let hi = to_z w64 (of_z w64 t.greatest) in
     rw (p.1, p.2)
-    (λ kept. stop_claim c.characteristic.result c.degree.result t lo hi kept _ _ (c.in_ok-pass.ensures kept) _ (c.in_err-claim.ensures.read kept) (to_z-of_z w64 t.least (search rules)) (to_z-of_z w64 t.greatest (search rules))
+    (λ kept. stop_claim c.characteristic.result c.degree.result t lo hi kept _ _ (c.in_ok-pass.ensures.read kept) _ (c.in_err-claim.ensures.read kept) (to_z-of_z w64 t.least (search rules)) (to_z-of_z w64 t.greatest (search rules))
     ∙ claim_as c.characteristic.ensures c.degree.ensures c.args.terms.now kept c.args.reader.now)
 
 pub returns-in_err-pass-2 : goal.returns-in_err-pass-2
@@ -29,8 +29,8 @@ returns-in_err-pass-2 g c =
     let k : SFits w64 c.args.terms.now.greatest = search rules in
     rw (p.1, p.2)
     (λ kept.
-    c.in_err-pass-2.ensures (kept ++ c.in_ok-claim.claim ∷ [])
-    ∙ at_form_end c.characteristic.result c.degree.result c.args.terms.now _ _ kept _ _ (c.in_ok-pass.ensures kept) _ _ (c.in_ok-claim.ensures.read kept) (to_z-of_z w64 _ f) (to_z-of_z w64 _ k)
+    c.in_err-pass-2.ensures.read (kept ++ c.in_ok-claim.claim ∷ [])
+    ∙ at_form_end c.characteristic.result c.degree.result c.args.terms.now _ _ kept _ _ (c.in_ok-pass.ensures.read kept) _ _ (c.in_ok-claim.ensures.read kept) (to_z-of_z w64 _ f) (to_z-of_z w64 _ k)
     ∙ claim_as c.characteristic.ensures c.degree.ensures c.args.terms.now kept c.args.reader.now)
 
 pub returns : goal.returns
@@ -40,6 +40,6 @@ returns g c =
     let h : SFits w64 c.in_ok-claim.claim = search rules in
     λ kept.
     ap (λ z. Ok (kept ++ z ∷ [], c.pass-2.new.reader)) (to_z-of_z w64 c.in_ok-claim.claim h)
-    ∙ c.in_ok-pass-2.ensures (kept ++ c.in_ok-claim.claim ∷ [])
-    ∙ at_form_end c.characteristic.result c.degree.result c.args.terms.now _ _ kept _ _ (c.in_ok-pass.ensures kept) _ _ (c.in_ok-claim.ensures.read kept) (to_z-of_z w64 _ f) (to_z-of_z w64 _ k)
+    ∙ c.in_ok-pass-2.ensures.read (kept ++ c.in_ok-claim.claim ∷ [])
+    ∙ at_form_end c.characteristic.result c.degree.result c.args.terms.now _ _ kept _ _ (c.in_ok-pass.ensures.read kept) _ _ (c.in_ok-claim.ensures.read kept) (to_z-of_z w64 _ f) (to_z-of_z w64 _ k)
     ∙ claim_as c.characteristic.ensures c.degree.ensures c.args.terms.now kept c.args.reader.now
