@@ -1,4 +1,6 @@
 // What was compared, what came of it, and every difference.
+ghost use Rattle.std.specs.Prelude.{◌≡◌, ◌≢◌, ◌<◌, ◌≤◌, true, false};
+
 use crate::call::Call;
 use crate::counts::Counts;
 use crate::difference::Difference;
@@ -34,11 +36,15 @@ impl Report {
         self.game = self.game.wrapping_add(1);
     }
 
-    // Holds what was found to what is wanted.
-    pub fn same(&mut self, what: &'static str, found: u64, wanted: u64) {
+    // Holds what was found to what is wanted. No difference is lost.
+    pub fn same(&mut self, what: &'static str, found: u64, wanted: u64)
+        ensures seen { found ≢ wanted → 0 < self.new.differing }
+        ensures kept { self.old.differing ≤ self.new.differing }
+        ensures none { found ≡ wanted → self.new.differing ≡ self.old.differing }
+    {
         self.compared = self.compared.wrapping_add(1);
         if found != wanted {
-            self.differing = self.differing.wrapping_add(1);
+            self.differing = self.differing.saturating_add(1);
             if self.kept.len() < KEPT {
                 // A difference that finds no memory is counted all the same.
                 let _ = self.kept.push(Difference {
@@ -51,7 +57,11 @@ impl Report {
         }
     }
 
-    pub fn holds(&mut self, what: &'static str, test: bool) {
+    pub fn holds(&mut self, what: &'static str, test: bool)
+        ensures seen { test ≡ false → 0 < self.new.differing }
+        ensures kept { self.old.differing ≤ self.new.differing }
+        ensures none { test ≡ true → self.new.differing ≡ self.old.differing }
+    {
         self.same(what, u64::from(test), 1);
     }
 
