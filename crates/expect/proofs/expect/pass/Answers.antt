@@ -16,6 +16,7 @@ returns-in_err-expect-clause-after c = c.in_err-expect.ensures.after ∙ to_stop
 
 -- and where it is there, the pass goes on with the rest
 pub loop-due-preserved : goal.loop-due-preserved
-loop-due-preserved c =
-    (λ kept. pass_on due_of _ _ _ c.loop-due-test.true kept _ _ (c.in_ok-expect.ensures.read kept) ∙ c.loop-due.invariant.0 kept,
-    ap (passed_to _) c.in_ok-expect.ensures.after ∙ to_on due_of _ _ _ c.loop-due-test.true _ _ (c.in_ok-expect.ensures.read []) ∙ c.loop-due.invariant.1)
+loop-due-preserved c = (
+  λ kept. pass_on due_of _ _ _ c.loop-due-test.true kept _ _ (c.in_ok-expect.ensures.read kept) ∙ c.loop-due.invariant.0 kept,
+  ap (passed_to _) c.in_ok-expect.ensures.after ∙ to_on due_of _ _ _ c.loop-due-test.true _ _ (c.in_ok-expect.ensures.read []) ∙ c.loop-due.invariant.1,
+)
