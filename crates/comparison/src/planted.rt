@@ -36,7 +36,7 @@ fn refused_at(place: u64) -> Refused {
     }
 }
 
-// Differences that a report is handed itself, each to a report of its own: how many reports count one, and how many there are.
+// Differences handed to a report directly, each to a report of its own: how many reports count one, and how many there are.
 fn counted(heap: Global) -> (u64, u64) {
     let mut less = Report::new(heap);
     less.same(PLANTED, 1, 2);

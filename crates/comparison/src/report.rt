@@ -36,7 +36,7 @@ impl Report {
         self.game = self.game.wrapping_add(1);
     }
 
-    // Holds what was found to what is wanted. No difference is lost.
+    // Holds what was found to what is wanted. No difference is lost: the count is then above zero, and it never falls.
     pub fn same(&mut self, what: &'static str, found: u64, wanted: u64)
         ensures seen { found ≢ wanted → 0 < self.new.differing }
         ensures kept { self.old.differing ≤ self.new.differing }
@@ -65,7 +65,7 @@ impl Report {
         self.same(what, u64::from(test), 1);
     }
 
-    // Holds an outcome to one that was granted, which a difference shows as 0, or to a refusal's number: numbers, since what is printed is a number.
+    // Holds an outcome to one that was granted, which a difference shows as 0 (no refusal has this number), or to a refusal's number.
     pub fn number<T>(&mut self, what: &'static str, found: &Outcome<T>, wanted: Result<(), u64>) {
         let shown = |came: Result<(), u64>| came.err().unwrap_or(0);
         self.same(what, shown(number_of(found)), shown(wanted));
@@ -97,7 +97,9 @@ impl Report {
     }
 
     // How many differences there were.
-    pub fn differing(&self) -> u64 {
+    pub fn differing(&self) -> u64
+        ensures { result ≡ self.now.differing }
+    {
         self.differing
     }
 

@@ -1,4 +1,4 @@
-// The columns of the counts at a node. At a row they are its counts; at the other nodes each row has a weight.
+// The columns of the counts at a node. At a row they are the images of its counts; at the other nodes each row has a weight.
 ghost use Rattle.std.specs.Prelude.{◌≡◌, ◌<◌, ◌≤◌, length};
 ghost use Rattle.polynomial.specs.Columns.{columns, row};
 ghost use Rattle.polynomial.specs.Interpolation.{node};
@@ -47,7 +47,7 @@ fn fill_row<F: Field>(sums: &mut [F], counts: &Counts<'_>, x: u32)
     }
 }
 
-// Fills `sums` with the columns of the counts at the node x. At a row no weight is computed: that is half of the nodes of an answer.
+// Fills `sums` with the columns of the counts at the node x. At a row no weight is computed.
 #[tactic(auto, using(crate::proofs::Steps::columns_at_row))]
 pub(crate) fn fill_columns_at<F: Field>(sums: &mut [F], counts: &Counts<'_>, x: u32)
     requires few { x ≤ 252 }

@@ -1,12 +1,12 @@
 -- Trials in order exist, and the runs of the promise are the ends of a trial. Assumes nothing but the laws of the field.
-use Rattle.std.proofs.Common.{◌≡◌, ℕ, suc, ◌+◌, ◌-◌, ◌*◌, List, [], ◌∷◌, ◌++◌, map, pos, refl, arith}
+use Rattle.std.proofs.Common.{◌≡◌, ℕ, suc, ◌+◌, ◌-◌, ◌*◌, List, [], ◌∷◌, ◌++◌, map, pos, refl, arith, ap, ◌∙◌}
 use lib.ListN.{length-replicate}
 use Rattle.board.specs.declared.game.Move.{Move}
 use Rattle.field.specs.Field.{FieldModel, LawfulField}
 use Rattle.question.proofs.SquaresLaw.{squares_lawful}
 use Rattle.host.specs.Notes.{HostState, host_noted, host_after}
 use Rattle.verifier.specs.Notes.{VerifierState, verifier_noted, verifier_after}
-use Rattle.promise.specs.Runs.{noting, sealing, asking, listening, sealed, after}
+use Rattle.promise.specs.Runs.{begun, noting, sealing, asking, listening, sealed, after}
 use Rattle.promise.specs.Ends.{Judging, verifier_end, Answering, host_end}
 use Rattle.play.specs.Adequacy.{OrdersMet, RunsAreCalls}
 
@@ -40,4 +40,7 @@ module _ {K : Type 0} (F : FieldModel K) where
   verifier_sealed x (m ∷ ms) qs = verifier_sealed (verifier_noted F x m) ms qs
 
   pub runs_are_calls : RunsAreCalls F
-  runs_are_calls = record { host = host_sealed; verifier = verifier_sealed }
+  runs_are_calls = record {
+    host = λ o granted ms qs. ap (λ a. after (host_end F) (begun (host_end F) a o) (map noting ms ++ (sealing ∷ map asking qs))) granted ∙ host_sealed ((host_end F).begin o) ms qs;
+    verifier = λ o granted ms qs. ap (λ a. after (verifier_end F) (begun (verifier_end F) a o) (map noting ms ++ (sealing ∷ map asking qs))) granted ∙ verifier_sealed ((verifier_end F).begin o) ms qs;
+  }

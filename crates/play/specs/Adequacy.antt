@@ -1,14 +1,14 @@
--- That the contract of a trial says what it should: trials in order exist, with just the memory that is wanted, and the runs of the promise are the
--- ends of a trial. Assumes nothing.
-use Rattle.std.specs.Prelude.{◌≡◌, ℕ, suc, ◌+◌, ◌-◌, ◌*◌, true, List, ◌∷◌, ◌++◌, map, replicate, pos}
+-- That the contract of a trial says what it should: trials in order exist, with just the memory that is wanted, and the promise's runs lead to the ends
+-- that a trial's contract names. Assumes nothing.
+use Rattle.std.specs.Prelude.{◌≡◌, ℕ, suc, ◌+◌, ◌-◌, ◌*◌, true, List, ◌∷◌, ◌++◌, map, replicate, pos, Ok}
 use Rattle.board.specs.declared.game.Move.{Move}
 use Rattle.board.specs.Grids.{grid_allowed}
 use Rattle.field.specs.Field.{FieldModel}
 use Rattle.question.specs.SquareSums.{squares_question}
-use Rattle.host.specs.Notes.{HostState, host_after}
-use Rattle.verifier.specs.Notes.{VerifierState, verifier_after}
-use Rattle.promise.specs.Runs.{noting, sealing, asking, listening, sealed, after}
-use Rattle.promise.specs.Ends.{Judging, verifier_end, Answering, host_end}
+use Rattle.host.specs.Notes.{host_opened, host_after}
+use Rattle.verifier.specs.Notes.{verifier_opened, verifier_after}
+use Rattle.promise.specs.Runs.{opening, noting, sealing, asking, closed, sealed, after}
+use Rattle.promise.specs.Ends.{VerifierOpening, Judging, verifier_end, HostOpening, Answering, host_end}
 use Rattle.play.specs.Trials.{InOrder}
 
 module _ {K : Type 0} (F : FieldModel K) where
@@ -19,7 +19,9 @@ module _ {K : Type 0} (F : FieldModel K) where
       (h v : ℕ) → grid_allowed h v ≡ true → (r : K) (ms : List Move)
       → InOrder F h v r ms (squares_question F) (replicate (h * v) (pos 0)) (replicate v F.zero) (replicate (suc (2 * (h - 1)) + v) F.zero) (replicate 9216 0)
 
-  -- in a run an end that is told moves, sealed and asked is the end that the calls make
+  -- a granted open, moves, a seal and whatever is asked lead, in the promise's runs, to the end that a trial's contract names
   pub record RunsAreCalls : Type 0 where
-    pub host : (x : HostState) (ms : List Move) (qs : List (Answering K)) → after (host_end F) (listening x) (map noting ms ++ (sealing ∷ map asking qs)) ≡ sealed (host_after F.limit x ms)
-    pub verifier : (x : VerifierState K) (ms : List Move) (qs : List (Judging K)) → after (verifier_end F) (listening x) (map noting ms ++ (sealing ∷ map asking qs)) ≡ sealed (verifier_after F x ms)
+    pub host : (o : HostOpening) → (host_end F).grant o ≡ Ok tt → (ms : List Move) (qs : List (Answering K))
+        → after (host_end F) closed (opening o ∷ (map noting ms ++ (sealing ∷ map asking qs))) ≡ sealed (host_after F.limit (host_opened o.rows o.columns o.bank) ms)
+    pub verifier : (o : VerifierOpening K) → (verifier_end F).grant o ≡ Ok tt → (ms : List Move) (qs : List (Judging K))
+        → after (verifier_end F) closed (opening o ∷ (map noting ms ++ (sealing ∷ map asking qs))) ≡ sealed (verifier_after F (verifier_opened F o.rows o.columns o.point o.bank) ms)

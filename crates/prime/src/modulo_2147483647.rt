@@ -45,14 +45,14 @@ pub fn limit_2147483647() -> u32
     Mersenne31::limit()
 }
 
-// The number modulo 2,147,483,647 that no residue squares to, which makes the extension.
+// The number that makes the extension: t × t is −1. That it is no square modulo 2,147,483,647 says `is_lawful_2147483647`.
 pub fn non_square_2147483647() -> u32
     ensures { result ≡ 2147483646 }
 {
     Mersenne31::non_square().value()
 }
 
-// The residues modulo 2,147,483,647 are a lawful field, and its base.
+// The residues modulo 2,147,483,647 are a lawful field, and with −1, which is no square, a lawful base of the extension.
 #[tactic(auto, using(crate::specs::Fields::lawful_2147483647, crate::specs::Fields::base_2147483647))]
 pub fn is_lawful_2147483647()
     ensures field { LawfulField (prime_field 2147483647 (lit< tt) 46340) }

@@ -45,14 +45,14 @@ pub fn limit_65537() -> u32
     Mod65537::limit()
 }
 
-// The number modulo 65,537 that no residue squares to, which makes the extension.
+// The number that makes the extension: t × t is 3. That it is no square modulo 65,537 says `is_lawful_65537`.
 pub fn non_square_65537() -> u32
     ensures { result ≡ 3 }
 {
     Mod65537::non_square().value()
 }
 
-// The residues modulo 65,537 are a lawful field, and its base.
+// The residues modulo 65,537 are a lawful field, and with 3, which is no square, a lawful base of the extension.
 #[tactic(auto, using(crate::specs::Fields::lawful_65537, crate::specs::Fields::base_65537))]
 pub fn is_lawful_65537()
     ensures field { LawfulField (prime_field 65537 (lit< tt) 256) }

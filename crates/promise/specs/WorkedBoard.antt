@@ -83,7 +83,7 @@ pub record WorkedPromise : Type 0 where
   pub at_zero : Fooled residues 2 8 told (entry13 ∷ []) (node residues 0)
   pub at_two : Fooled residues 2 8 told (entry13 ∷ []) (node residues 2)
   pub nowhere_else : (r : Residue 65537) → Fooled residues 2 8 told (entry13 ∷ []) r → (r ≡ node residues 0) ⊎ (r ≡ node residues 2)
-  -- two false sheets together are accepted at no more than the sum of their degrees, which is 4, and there are four such points
+  -- two false sheets together are accepted at no more points than the sum of their degrees, which is 4, and there are four such points
   pub second_false : FalseClaim residues 2 8 told entry0
   pub degrees : false_degrees residues 2 8 told mixture ≡ 4
   pub mixed : (rs : List (Residue 65537)) → Distinct rs → Each (Fooled residues 2 8 told mixture) rs → length rs ≤ 4

@@ -1,5 +1,5 @@
 // The two tests of a sheet's values: their sum, and their polynomial at the secret point.
-ghost use Rattle.std.specs.Prelude.{◌≡◌, suc, ◌≤◌, length, take};
+ghost use Rattle.std.specs.Prelude.{◌≡◌, suc, length};
 ghost use Rattle.polynomial.specs.Sums.{list_sum};
 ghost use Rattle.verifier.specs.Judging.{weighed};
 

@@ -1,4 +1,4 @@
--- One board, worked out over the residues modulo 65,537: two rows, eight columns, and the moves (0, 3), (8, 1), (9, −2). Assumes nothing.
+-- One board, and the limits of grids, moves and memory, worked out over the residues modulo 65,537: two rows, eight columns, and the moves (0, 3), (8, 1), (9, −2). Assumes nothing.
 use Rattle.std.specs.Prelude.{◌≡◌, ℕ, List, [], ◌∷◌, ◌++◌, map, take, replicate, ℤ, pos, negsuc, Ok, Err, codes, Result}
 use Rattle.board.specs.declared.refusal.Fault.TheVariants as fault
 use Rattle.board.specs.declared.refusal.Refusal.{Refusal}
@@ -99,11 +99,13 @@ pub record GameCases : Type 0 where
 pub record SheetCases : Type 0 where
   -- the host's spelling
   pub sheet : honest_sheet residues 2 8 (squares_question residues) counts ≡ sheet_of (codes "14") (codes "9") (codes "5") (codes "17")
-  -- numbers
+  -- the numbers of refusals and faults
   pub refusals : map number_of (CellOutside ∷ AmountOutside ∷ TooHeavy ∷ GridOutside ∷ BankShort ∷ CountOutside ∷ QuestionUnfit ∷ TrayShort ∷ PaperShort ∷ SumWrong ∷ PointWrong ∷ []) ≡ 1 ∷ 2 ∷ 3 ∷ 10 ∷ 12 ∷ 13 ∷ 20 ∷ 21 ∷ 22 ∷ 50 ∷ 51 ∷ []
   pub faults : map fault_number (fault.Malformed ∷ fault.Unexpected ∷ fault.Field ∷ fault.Grid ∷ fault.Tag ∷ fault.Claim ∷ fault.Index ∷ fault.Part ∷ []) ≡ 30 ∷ 31 ∷ 40 ∷ 41 ∷ 42 ∷ 43 ∷ 44 ∷ 45 ∷ []
   pub number_51 : numbered (found 5 (sheet_of (codes "13") (codes "9") (codes "4") (codes "17"))) ≡ Err 51
   pub number_50 : numbered (found 5 (sheet_of (codes "13") (codes "9") (codes "5") (codes "17"))) ≡ Err 50
+  -- a sheet that fails both tests is refused by the first
+  pub sum_first : numbered (found 5 (sheet_of (codes "13") (codes "9") (codes "5") (codes "18"))) ≡ Err 50
   pub number_43 : numbered (found 5 (sheet_of (codes "65551") (codes "9") (codes "5") (codes "17"))) ≡ Err 43
   -- lines and places
   pub empty : found 5 [] ≡ Err (Sheet fault.Unexpected 1 0)
