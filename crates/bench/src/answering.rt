@@ -12,7 +12,7 @@ pub fn answer<F: Field>(heap: Global, grid: Grid, times: u32) -> anyhow::Result<
     let mut counts = vec![in heap; 0i32; grid.cells() as usize]?;
     let mut bank = Bank::new(counts.as_mut_slice());
     let host = sealed_host::<F>(grid, &mut bank)?;
-    let mut tray = tray::<F>(heap, values_of(grid) + grid.columns() as usize)?;
+    let mut tray = tray::<F>(heap, values_of(grid) + grid.columns as usize)?;
     let mut paper = paper(heap)?;
     let mut last = 0;
     for turn in 0..times {

@@ -10,7 +10,7 @@ use std::alloc::Global;
 pub fn judge<F: Field>(heap: Global, grid: Grid, times: u32) -> anyhow::Result<Tally> {
     let mut tally = Tally::new();
     let stated = stated::<F>(heap, grid)?;
-    let mut sums = vec![in heap; F::zero(); grid.columns() as usize]?;
+    let mut sums = vec![in heap; F::zero(); grid.columns as usize]?;
     let mut bank = Bank::new(sums.as_mut_slice());
     let verifier = sealed_box::<F>(grid, &mut bank)?;
     let mut tray = tray::<F>(heap, stated.values.len())?;

@@ -3,7 +3,8 @@
 use crate::moves::Moves;
 use crate::subjects::{open_box, open_host};
 use crate::tally::Tally;
-use board::{Bank, Grid, Refusal};
+use board::{Bank, Grid};
+use refusal::Refusal;
 use field::Field;
 use std::alloc::Global;
 
@@ -59,7 +60,7 @@ fn play_at_host<F: Field>(
 // Tells boxes so many moves, game after game.
 pub fn note_at_boxes<F: Field>(heap: Global, grid: Grid, times: u32) -> anyhow::Result<Tally> {
     let mut tally = Tally::new();
-    let mut cells = vec![in heap; F::zero(); grid.columns() as usize]?;
+    let mut cells = vec![in heap; F::zero(); grid.columns as usize]?;
     let mut bank = Bank::new(cells.as_mut_slice());
     let mut moves = Moves::new(grid, 1);
     let longest = F::limit();

@@ -14,8 +14,8 @@ pub fn report(rt: &impl Print, heap: Global, work: Work) -> anyhow::Result<()> {
         grid,
         times,
     } = work;
-    let rows = grid.rows();
-    let columns = grid.columns();
+    let rows = grid.rows;
+    let columns = grid.columns;
     let tally = done(heap, work)?;
     let refused = tally.refused;
     let checksum = tally.checksum;

@@ -20,7 +20,7 @@ pub struct Statement<F> {
 pub fn values_of(grid: Grid) -> usize
     ensures { result + 1 ≡ 2 * grid.rows }
 {
-    2 * grid.rows() as usize - 1
+    2 * grid.rows as usize - 1
 }
 
 // A tray of zeros: for an answer, with the columns behind the values.
@@ -42,7 +42,7 @@ pub fn stated<F: Field>(heap: Global, grid: Grid) -> anyhow::Result<Statement<F>
     let mut counts = vec![in heap; 0i32; grid.cells() as usize]?;
     let mut bank = Bank::new(counts.as_mut_slice());
     let host = sealed_host::<F>(grid, &mut bank)?;
-    let mut values = tray::<F>(heap, values_of(grid) + grid.columns() as usize)?;
+    let mut values = tray::<F>(heap, values_of(grid) + grid.columns as usize)?;
     let mut sheet = paper(heap)?;
     let (claim, length) = host.answer(
         &bank,

@@ -1,6 +1,7 @@
 // The ends that calls are made at: told a few moves, and sealed.
 use crate::moves::{Moves, heaviest};
-use board::{Bank, Grid, Refusal};
+use board::{Bank, Grid};
+use refusal::Refusal;
 use field::Field;
 
 // How many moves sealed ends were told.
@@ -29,7 +30,7 @@ pub fn open_host<F: Field>(
     grid: Grid,
     bank: &mut Bank<'_, i32>,
 ) -> Result<host::Listening<F>, Refusal> {
-    host::Listening::open(u64::from(grid.rows()), u64::from(grid.columns()), bank)
+    host::Listening::open(u64::from(grid.rows), u64::from(grid.columns), bank)
 }
 
 pub fn open_box<F: Field>(
@@ -37,8 +38,8 @@ pub fn open_box<F: Field>(
     bank: &mut Bank<'_, F>,
 ) -> Result<verifier::Listening<F>, Refusal> {
     verifier::Listening::open(
-        u64::from(grid.rows()),
-        u64::from(grid.columns()),
+        u64::from(grid.rows),
+        u64::from(grid.columns),
         secret_point(),
         bank,
     )

@@ -1,5 +1,5 @@
 // What the results of calls come to.
-use board::Refusal;
+use refusal::Refusal;
 use field::Field;
 
 // A checksum of every result, and how many calls were refused.

@@ -2,8 +2,8 @@
 use Rattle.std.proofs.Common.{IfOk, ◌≡◌, ℕ, zero, suc, ◌+◌, ◌*◌, ◌<◌, ◌≤◌, Bool, true, false, ltb, leb, List, [], ◌∷◌, ◌++◌, length, get_or, set, replicate, ℤ, pos, ◌+ℤ◌, nat_abs, Ok, Err, Result, refl, ◌∙◌, subst, arith, length-set, ltb-true, leb-true}
 use lib.ListN.{length-replicate}
 use Rattle.std.proofs.lemmas.Int.{ints}
-use Rattle.board.specs.declared.game.Move.{Move}
-use Rattle.board.specs.declared.refusal.Refusal.{Refusal}
+use Rattle.board.specs.declared.moves.Move.{Move}
+use Rattle.refusal.specs.declared.refusal.Refusal.{Refusal}
 use Rattle.board.specs.Ledger.{move_answer, abs_sum, Ledger, ledger_start, ledger_enter, ledger_answer, ledger_next, ledger_from, ledger}
 
 -- what an accepted move keeps to

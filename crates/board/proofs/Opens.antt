@@ -2,7 +2,8 @@
 use Rattle.std.proofs.Common.{IfOk, ◌≡◌, ℕ, ◌≤◌, Bool, true, false, leb, List, length, take, drop, replicate, Ok, refl, ap, ◌∙◌, subst, arith, length-append, length-drop, leb-true}
 use lib.ListN.{length-replicate}
 use lib.Seq.{take-append_seam, drop-append_seam}
-use Rattle.board.specs.Banks.{filled, kept_or}
+use Rattle.board.specs.Banks.{filled}
+use Rattle.board.specs.Answers.{kept_or}
 use Rattle.board.specs.Books.{open_answer, open_bank}
 use Rattle.board.specs.Grids.{grid_allowed}
 

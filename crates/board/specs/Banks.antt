@@ -1,8 +1,8 @@
 -- A bank: a row of cells over memory that the caller supplies. Assumes nothing.
 use Rattle.std.specs.Prelude.{◌≡◌, ℕ, cond, List, ◌++◌, length, drop, replicate, Ok, Err, Result, nat_le, nat_lt}
-use denote.Ref.{MutBor}
-use Rattle.board.specs.declared.refusal.Refusal.{Refusal}
-use Rattle.board.specs.declared.refusal.Refusal.TheVariants.{BankShort}
+use Rattle.board.specs.declared.bank.Bank.{Bank}
+use Rattle.refusal.specs.declared.refusal.Refusal.{Refusal}
+use Rattle.refusal.specs.declared.refusal.Refusal.TheVariants.{BankShort}
 
 -- whether there is a cell i
 abbrev pub reached : {A : Type 0} → List A → ℕ → Result (Unit {0}) Refusal
@@ -16,12 +16,11 @@ room_for n cells = cond (nat_le n (length cells)) (Ok tt) (Err BankShort)
 abbrev pub filled : {A : Type 0} → ℕ → A → List A → List A
 filled n x cells = replicate n x ++ drop n cells
 
--- the new cells where a call was granted, else the old ones
-abbrev pub kept_or : {A B : Type 0} → Result B Refusal → A → A → A
-kept_or (Ok u) old new = new
-kept_or (Err r) old new = old
+-- the cells of a bank
+abbrev pub cells_of : {A : Type 0} → Bank A → List A
+cells_of b = b.cells.now
 
--- the memory that was lent, of the same lender, with these cells
-pub record Rewritten {A : Type 0} (old new : MutBor (List A)) (cells : List A) : Type 0 where
-  pub holds : new.now ≡ cells
-  pub lender : new.ghost_name ≡ old.ghost_name
+-- the same memory, lent by the same lender, with these cells
+pub record Rewritten {A : Type 0} (old new : Bank A) (cells : List A) : Type 0 where
+  pub holds : cells_of new ≡ cells
+  pub lender : new.cells.ghost_name ≡ old.cells.ghost_name

@@ -1,18 +1,13 @@
 -- What an end keeps of its grid and of the moves that it accepted, and what opening an end answers. Assumes nothing.
 use Rattle.std.specs.Prelude.{◌≡◌, ℕ, suc, ◌+◌, cond, List, Ok, Err, Result, unsigned_abs}
-use Rattle.board.specs.declared.game.Book.TheInside.{Inside}
-use Rattle.board.specs.declared.game.Grid.{Grid}
-use Rattle.board.specs.declared.game.Move.{Move}
-use Rattle.board.specs.declared.refusal.Refusal.{Refusal}
-use Rattle.board.specs.declared.refusal.Refusal.TheVariants.{GridOutside}
-use Rattle.board.specs.Banks.{room_for, filled, kept_or}
+use Rattle.board.specs.declared.moves.Move.{Move}
+use Rattle.refusal.specs.declared.refusal.Refusal.{Refusal}
+use Rattle.refusal.specs.declared.refusal.Refusal.TheVariants.{GridOutside}
+use Rattle.board.specs.Banks.{room_for, filled}
+use Rattle.board.specs.Answers.{kept_or}
 use Rattle.board.specs.Grids.{grid_allowed}
 use Rattle.board.specs.Ledger.{Ledger, move_answer}
 use Rattle.board.specs.Standing.{Standing}
-
--- where a book stands
-abbrev pub standing : Inside → Standing
-standing b = record { rows = b.grid.rows; columns = b.grid.columns; weight = b.weight; number = b.number }
 
 -- a new game
 abbrev pub new_standing : ℕ → ℕ → Standing
@@ -29,20 +24,6 @@ entered s m = record { rows = s.rows; columns = s.columns; weight = s.weight + u
 -- a move is answered as a ledger of this weight answers it
 abbrev pub book_answer : ℕ → Standing → Move → Result (Unit {0}) Refusal
 book_answer W s m = move_answer s.rows s.columns W s.weight m
-
--- whether the grid is allowed
-abbrev pub grid_answer : ℕ → ℕ → Result (Unit {0}) Refusal
-grid_answer h v = cond (grid_allowed h v) (Ok tt) (Err GridOutside)
-
--- the grid of h rows and v columns, or the refusal where it is not allowed
-abbrev pub Laid : ℕ → ℕ → Result Grid Refusal → Type 0
-Laid h v (Ok g) = (grid_answer h v ≡ Ok tt) × (g.rows ≡ h) × (g.columns ≡ v)
-Laid h v (Err r) = grid_answer h v ≡ Err r
-
--- whether a call was granted, or its refusal
-abbrev pub granted : {A : Type 0} → Result A Refusal → Result (Unit {0}) Refusal
-granted (Ok x) = Ok tt
-granted (Err r) = Err r
 
 -- open on h rows and v columns with a bank of which n cells are wanted
 abbrev pub open_answer : {A : Type 0} → ℕ → ℕ → ℕ → List A → Result (Unit {0}) Refusal

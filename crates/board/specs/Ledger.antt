@@ -1,8 +1,8 @@
 -- The ledger: which moves count, and what they come to. Assumes nothing.
 use Rattle.std.specs.Prelude.{◌≡◌, ℕ, suc, ◌+◌, ◌*◌, Bool, cond, ◌&&◌, List, [], ◌∷◌, replicate, ℤ, pos, ◌+ℤ◌, Ok, Err, Result, nat_le, nat_lt, slice_index_or, slice_set, unsigned_abs}
-use Rattle.board.specs.declared.game.Move.{Move}
-use Rattle.board.specs.declared.refusal.Refusal.{Refusal}
-use Rattle.board.specs.declared.refusal.Refusal.TheVariants.{CellOutside, AmountOutside, TooHeavy}
+use Rattle.board.specs.declared.moves.Move.{Move}
+use Rattle.refusal.specs.declared.refusal.Refusal.{Refusal}
+use Rattle.refusal.specs.declared.refusal.Refusal.TheVariants.{CellOutside, AmountOutside, TooHeavy}
 
 -- an amount from −256 to 256 other than 0
 abbrev pub amount_allowed : ℤ → Bool

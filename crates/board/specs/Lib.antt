@@ -1,7 +1,7 @@
-pub mod Refusals
+pub mod Answers
 pub mod Grids
 pub mod Ledger
 pub mod Banks
 pub mod Standing
 pub mod Books
-pub mod Words
+pub mod Views

@@ -3,7 +3,8 @@ use crate::call::Call;
 use crate::convert::same;
 use crate::outcome::{Outcome, bare, found, wanted};
 use crate::table::Table;
-use board::{Bank, Book, Move, Refusal};
+use board::{Bank, Book, Move};
+use refusal::Refusal;
 use reference::{Arithmetic, Game, Standing, Stop};
 use std::alloc::AllocError;
 

@@ -2,7 +2,8 @@
 use crate::call::Call;
 use crate::convert::plain_move;
 use crate::ends::{End, Names, Pair};
-use board::{Bank, Book, Move, Refusal};
+use board::{Bank, Book, Move};
+use refusal::Refusal;
 use field::Field;
 use host::Listening;
 use reference::{Arithmetic, Game, Standing, Stop, note_at_host, open_host};

@@ -16,7 +16,7 @@ fn rule_of<F: Field, Q: Question<F>>(
     columns: &[F],
 ) -> Option<F> {
     match question.fit(grid) {
-        Fit::Fits if columns.len() == grid.columns() as usize => {
+        Fit::Fits if columns.len() == grid.columns as usize => {
             Some(question.rule(grid, point, columns))
         }
         _ => None,

@@ -11,8 +11,8 @@ pub struct Refused {
 
 pub type Outcome<T> = Result<T, Refused>;
 
-impl From<board::Refusal> for Refused {
-    fn from(refusal: board::Refusal) -> Refused {
+impl From<refusal::Refusal> for Refused {
+    fn from(refusal: refusal::Refusal) -> Refused {
         Refused {
             number: u64::from(refusal.number()),
             position: refusal.position().map(|(line, place)| Position {
@@ -33,7 +33,7 @@ impl From<reference::Refusal> for Refused {
 }
 
 // What a call of the product came to.
-pub fn found<T>(answer: Result<T, board::Refusal>) -> Outcome<T> {
+pub fn found<T>(answer: Result<T, refusal::Refusal>) -> Outcome<T> {
     answer.map_err(Refused::from)
 }
 

@@ -2,7 +2,8 @@
 use crate::call::Call;
 use crate::convert::{element, parts, plain_move};
 use crate::ends::{End, Names, Pair};
-use board::{Bank, Book, Move, Refusal};
+use board::{Bank, Book, Move};
+use refusal::Refusal;
 use field::Field;
 use reference::{Arithmetic, Element, Game, Standing, Stop, note_at_verifier, open_verifier};
 use verifier::Listening;

@@ -1,5 +1,6 @@
 // What the tests share: the two ends behind one trait, and moves with what is expected of them.
-use board::{Bank, Book, Move, Refusal};
+use board::{Bank, Book, Move};
+use refusal::Refusal;
 use field::Field;
 use std::process::Abort;
 
@@ -63,7 +64,7 @@ pub(crate) type Step = (u64, i64, Result<(), Refusal>, u32, u32);
 
 // The book of a board of 2 rows and 8 columns.
 pub(crate) fn check_book(rt: &impl Abort, book: &Book, weight: u32, number: u32) {
-    assert!(rt; book.grid().rows() == 2 && book.grid().columns() == 8);
+    assert!(rt; book.grid().rows == 2 && book.grid().columns == 8);
     assert!(rt; book.weight() == weight && book.number() == number);
 }
 

@@ -1,6 +1,7 @@
 // Moves at both ends over Mod65537, whose limit of weights is 256, on boards of 2 rows and 8 columns.
 use crate::cases::*;
-use board::{Bank, Refusal};
+use board::Bank;
+use refusal::Refusal;
 use field::Field;
 use prime::Mod65537;
 use std::process::Abort;

@@ -1,6 +1,7 @@
 // Opens: which grids and banks they take, and what they leave in the bank.
 use crate::cases::*;
-use board::{Bank, Refusal};
+use board::Bank;
+use refusal::Refusal;
 use field::Field;
 use prime::Mod65537;
 use std::process::Abort;

@@ -1,9 +1,9 @@
 -- What the grammar has next, and one pass of tokens against what is due. Assumes nothing.
 use Rattle.std.specs.Prelude.{ℕ, Bool, cond, ◌&&◌, List, [], ◌∷◌, ◌++◌, ℤ, pos, ◌-ℤ◌, Ok, Err, codes, Result, int_le}
-use Rattle.board.specs.declared.refusal.Fault.{Fault}
-use Rattle.board.specs.declared.refusal.Fault.TheVariants as fault
-use Rattle.board.specs.declared.refusal.Refusal.{Refusal}
-use Rattle.board.specs.declared.refusal.Refusal.TheVariants as refusal
+use Rattle.refusal.specs.declared.fault.Fault.{Fault}
+use Rattle.refusal.specs.declared.fault.Fault.TheVariants as fault
+use Rattle.refusal.specs.declared.refusal.Refusal.{Refusal}
+use Rattle.refusal.specs.declared.refusal.Refusal.TheVariants as refusal
 use Rattle.token.specs.Tokens as tokens
 use Rattle.token.specs.Tokens.{Token, alike, is_malformed, Cursor, skip_spaces, next_token, after_token}
 use Rattle.expect.specs.declared.keyword.Keyword.{Keyword}

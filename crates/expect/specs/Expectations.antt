@@ -1,7 +1,7 @@
 -- What the code's expectations and answers stand for. Assumes nothing.
 use Rattle.std.specs.Prelude.{ℕ, List, [], ◌∷◌, ◌++◌, ℤ, pos, Ok, Err, Result}
-use Rattle.board.specs.declared.refusal.Fault.{Fault}
-use Rattle.board.specs.declared.refusal.Refusal.{Refusal}
+use Rattle.refusal.specs.declared.fault.Fault.{Fault}
+use Rattle.refusal.specs.declared.refusal.Refusal.{Refusal}
 use Rattle.token.specs.Tokens.{Cursor}
 use Rattle.expect.specs.declared.due.Due.{Due}
 use Rattle.expect.specs.declared.due.Due.TheVariants.{Open, Close, LineEnd, Word, End, Number}

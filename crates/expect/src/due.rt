@@ -1,6 +1,6 @@
 // What the grammar has next, where only one thing will do.
 use crate::keyword::Keyword;
-use board::Fault;
+use refusal::Fault;
 
 #[derive(Clone, Copy, PartialEq, Eq, Debug)]
 pub enum Due {

@@ -1,6 +1,6 @@
 // The reader against what is due: each call reads one token or more, and refuses at the first that is wrong.
 ghost use Rattle.std.specs.Prelude.{◌≡◌, ◌<◌, List, map, ℤ, ◌≤ℤ◌, IfOk};
-ghost use Rattle.board.specs.declared.refusal.Refusal.{Refusal};
+ghost use Rattle.refusal.specs.declared.refusal.Refusal.{Refusal};
 ghost use Rattle.token.specs.Readers.{token_of};
 ghost use Rattle.token.specs.Tokens.{after_token};
 ghost use Rattle.expect.specs.Dues.{Due.within as Within, spelled, part_below, check, step, pass, passed_to};
@@ -8,7 +8,7 @@ ghost use Rattle.expect.specs.Expectations.{due_of, verdict_of, passed_on, passe
 
 use crate::due::Due;
 use crate::keyword::Keyword;
-use board::{Fault, Refusal};
+use refusal::{Fault, Refusal};
 use token::{Found, Reader, Token};
 
 impl Keyword {

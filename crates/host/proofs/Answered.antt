@@ -1,8 +1,8 @@
 -- What an answer comes to, step by step. Assumes nothing.
 use Rattle.std.proofs.Common.{◌≡◌, ℕ, suc, ◌+◌, ◌*◌, ◌≤◌, Bool, true, false, cond, ◌&&◌, ltb, leb, List, ◌++◌, length, take, drop, ℤ, Ok, Err, Result, ap, subst, ap₂, arith, le-ltb, le-leb}
 use lib.Seq.{take-append_seam}
-use Rattle.board.specs.declared.refusal.Refusal.{Refusal}
-use Rattle.board.specs.declared.refusal.Refusal.TheVariants.{BankShort, CountOutside, QuestionUnfit, TrayShort, PaperShort}
+use Rattle.refusal.specs.declared.refusal.Refusal.{Refusal}
+use Rattle.refusal.specs.declared.refusal.Refusal.TheVariants.{BankShort, CountOutside, QuestionUnfit, TrayShort, PaperShort}
 use Rattle.board.specs.Ledger.{abs_sum}
 use Rattle.board.proofs.Ledgers.{abs_at}
 use Rattle.field.specs.Field.{FieldModel, LawfulField}

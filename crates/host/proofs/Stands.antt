@@ -1,10 +1,10 @@
 -- A host stands as its ledger does: its standing is the ledger's, and its bank begins with the ledger's counts. Assumes nothing.
 use Rattle.std.proofs.Common.{◌≡◌, ℕ, ◌*◌, ◌<◌, ◌≤◌, true, cond, List, [], ◌∷◌, length, get_or, take, drop, set, ℤ, pos, ◌+ℤ◌, Ok, Err, Result, sym, refl, ap, ◌∙◌, subst, ap₂, arith, length-set, get_or-take, drop-set-lt, le-ltb, le-leb}
 use lib.Seq.{take-set-lt}
-use Rattle.board.specs.declared.game.Move.{Move}
-use Rattle.board.specs.declared.refusal.Refusal.{Refusal}
-use Rattle.board.specs.declared.refusal.Refusal.TheVariants.{BankShort, CountOutside}
-use Rattle.board.specs.Banks.{kept_or}
+use Rattle.board.specs.declared.moves.Move.{Move}
+use Rattle.refusal.specs.declared.refusal.Refusal.{Refusal}
+use Rattle.refusal.specs.declared.refusal.Refusal.TheVariants.{BankShort, CountOutside}
+use Rattle.board.specs.Answers.{kept_or}
 use Rattle.board.specs.Books.{ledger_standing, entered}
 use Rattle.board.specs.Grids.{grid_allowed}
 use Rattle.board.specs.Ledger.{Ledger, ledger_start, ledger_enter, ledger_answer, ledger_next, ledger_from, answers_from, added_count}

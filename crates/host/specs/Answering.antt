@@ -1,8 +1,8 @@
 -- What a host answers to a question. Nothing here speaks of an end: an answer follows from the grid, the bank's cells, the question, the tray and
 -- the paper. Assumes nothing.
 use Rattle.std.specs.Prelude.{ℕ, suc, ◌+◌, ◌*◌, cond, List, ◌++◌, length, take, drop, ℤ, Ok, Err, Result, nat_le, nat_lt}
-use Rattle.board.specs.declared.refusal.Refusal.{Refusal}
-use Rattle.board.specs.declared.refusal.Refusal.TheVariants.{BankShort, CountOutside, QuestionUnfit, TrayShort, PaperShort}
+use Rattle.refusal.specs.declared.refusal.Refusal.{Refusal}
+use Rattle.refusal.specs.declared.refusal.Refusal.TheVariants.{BankShort, CountOutside, QuestionUnfit, TrayShort, PaperShort}
 use Rattle.board.specs.Ledger.{abs_sum}
 use Rattle.field.specs.Field.{FieldModel}
 use Rattle.polynomial.specs.Columns.{columns}

@@ -1,9 +1,9 @@
 -- What the calls of a host answer and leave. Assumes nothing.
 use Rattle.std.specs.Prelude.{ℕ, ◌*◌, cond, List, length, ℤ, pos, Ok, Err, Result, nat_le, nat_lt, slice_index_or, unsigned_abs}
-use Rattle.board.specs.declared.game.Move.{Move}
-use Rattle.board.specs.declared.refusal.Refusal.{Refusal}
-use Rattle.board.specs.declared.refusal.Refusal.TheVariants.{BankShort, CountOutside}
-use Rattle.board.specs.Banks.{kept_or}
+use Rattle.board.specs.declared.moves.Move.{Move}
+use Rattle.refusal.specs.declared.refusal.Refusal.{Refusal}
+use Rattle.refusal.specs.declared.refusal.Refusal.TheVariants.{BankShort, CountOutside}
+use Rattle.board.specs.Answers.{kept_or}
 use Rattle.board.specs.Books.{entered, book_answer, open_answer, open_bank}
 use Rattle.board.specs.Standing.{Standing}
 use Rattle.board.specs.Ledger.{added_count}

@@ -1,6 +1,6 @@
 -- What an open gives. Assumes nothing.
 use Rattle.std.specs.Prelude.{◌≡◌, ℕ, Ok, Err, Result}
-use Rattle.board.specs.declared.refusal.Refusal.{Refusal}
+use Rattle.refusal.specs.declared.refusal.Refusal.{Refusal}
 use Rattle.board.specs.Books.{new_standing}
 use Rattle.host.specs.declared.end.Listening.{Listening}
 

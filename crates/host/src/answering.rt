@@ -4,7 +4,8 @@ ghost use Rattle.host.specs.Answering.{answered};
 
 use crate::counts::{Counts, absolute_sum};
 use crate::values::fill_values;
-use board::{Bank, Grid, Refusal};
+use board::{Bank, Grid};
+use refusal::Refusal;
 use field::Field;
 use protocol::Suited;
 use question::Question;
@@ -27,7 +28,7 @@ pub(crate) fn answer_counts<F: Field, Q: Question<F>>(
     let counts = Counts { grid, cells };
     let asked = Suited::new(question, grid)?;
     let degree = asked.degree as usize;
-    if tray.len() < degree + 1 + grid.columns() as usize {
+    if tray.len() < degree + 1 + grid.columns as usize {
         return Err(Refusal::TrayShort);
     }
     if paper.len() < ENOUGH_PAPER {

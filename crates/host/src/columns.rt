@@ -28,7 +28,7 @@ fn fill_columns<F: Field>(sums: &mut [F], counts: &Counts<'_>, point: F)
 {
     let width = sums.len();
     fill_cells(sums, width, F::zero());
-    let rows = counts.grid.rows();
+    let rows = counts.grid.rows;
     for x in (0..rows).rev() {
         add_row(sums, counts.row(x), basis_at(rows, x, point));
     }
@@ -54,7 +54,7 @@ pub(crate) fn fill_columns_at<F: Field>(sums: &mut [F], counts: &Counts<'_>, x: 
     requires wide { length sums.old ≡ counts.now.grid.columns }
     ensures { sums.new ≡ columns F.Field.model counts.now.grid.rows counts.now.grid.columns counts.now.cells.now (node F.Field.model x) }
 {
-    if x < counts.grid.rows() {
+    if x < counts.grid.rows {
         fill_row(sums, counts, x);
     } else {
         fill_columns(sums, counts, node_at(x));

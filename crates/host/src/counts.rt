@@ -22,7 +22,7 @@ impl Counts<'_> {
         ensures length { length result.now ≡ self.now.grid.columns }
         ensures ranged { Ranged result.now }
     {
-        let width = self.grid.columns() as usize;
+        let width = self.grid.columns as usize;
         let start = x as usize * width;
         &self.cells[start..start + width]
     }

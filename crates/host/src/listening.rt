@@ -1,13 +1,14 @@
 // A host that listens: open, note, seal.
 ghost use Rattle.std.specs.Prelude.{◌≡◌, ◌<◌, ◌≤◌, length, Ok, unsigned_abs};
-ghost use Rattle.board.specs.Banks.{kept_or, Rewritten};
+ghost use Rattle.board.specs.Banks.{Rewritten};
+ghost use Rattle.board.specs.Answers.{kept_or, granted};
 ghost use Rattle.board.specs.Ledger.{added_count};
-ghost use Rattle.board.specs.Books.{granted};
 ghost use Rattle.host.specs.Calls.{host_open_answer, host_open_bank, count_answer, host_note_answer, host_note_standing, host_note_bank};
 ghost use Rattle.host.specs.Granted.{Opened};
 
 use crate::end::{Listening, Sealed};
-use board::{Bank, Book, Grid, Move, Refusal};
+use board::{Bank, Book, Grid, Move};
+use refusal::Refusal;
 use field::Field;
 use std::marker::PhantomData;
 

@@ -4,7 +4,8 @@ ghost use Rattle.host.specs.Answering.{answered};
 
 use crate::answering::answer_counts;
 use crate::end::Sealed;
-use board::{Bank, Book, Refusal};
+use board::{Bank, Book};
+use refusal::Refusal;
 use field::Field;
 use question::Question;
 

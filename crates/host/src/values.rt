@@ -22,7 +22,7 @@ pub(crate) fn fill_values<F: Field, Q: Question<F>>(
     ensures { tray.new ≡ honest F.Field.model asked.now.grid.rows asked.now.grid.columns (Q.Question.meaning asked.now.question.now) counts.now.cells.now ++ (columns F.Field.model asked.now.grid.rows asked.now.grid.columns counts.now.cells.now (node F.Field.model asked.now.degree) ++ drop (suc asked.now.degree + asked.now.grid.columns) tray.old) }
 {
     let (values, rest) = tray.split_at_mut(asked.degree as usize + 1);
-    let columns = &mut rest[..asked.grid.columns() as usize];
+    let columns = &mut rest[..asked.grid.columns as usize];
     for (j, value) in values.iter_mut().enumerate() {
         let x = j as u32;
         fill_columns_at(columns, counts, x);

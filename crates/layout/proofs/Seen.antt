@@ -7,7 +7,7 @@ use Rattle.std.proofs.lemmas.Slice.Eq.{bytes_eq-Decides}
 use Rattle.std.proofs.lemmas.List.{drop_at}
 use Rattle.std.proofs.lemmas.Int.{ints}
 use Rattle.std.proofs.lemmas.Bool.{cond-true, cond_both, and_parts, and_from, eqb-true}
-use Rattle.board.specs.declared.refusal.Fault.TheVariants as fault
+use Rattle.refusal.specs.declared.fault.Fault.TheVariants as fault
 use Rattle.token.specs.Tokens as tokens
 use Rattle.token.specs.Tokens.{Token, is_word, leading_spaces, kind, spelling, alike, is_malformed, token_at, width, Cursor, skip_spaces, after_token, next_token}
 use Rattle.token.proofs.Shows.{spaces_split, spaces_of, Shows, shows, solid_word, lone_number, sees_word, sees_number, no_space}

@@ -1,9 +1,9 @@
 -- A pass and the layout of marks: what a pass accepts is laid out, what it refuses is a first fault, and what is laid out is accepted. Assumes nothing.
 use Rattle.std.proofs.Common.{◌≡◌, ℕ, ◌+◌, List, [], ◌∷◌, ◌++◌, length, replicate, ℤ, pos, Ok, Err, sym, refl, ap, ◌∙◌, subst, append_assoc, append-nil}
 use Rattle.std.proofs.lemmas.Bool.{cond-true}
-use Rattle.board.specs.declared.refusal.Fault.{Fault}
-use Rattle.board.specs.declared.refusal.Refusal.{Refusal}
-use Rattle.board.specs.declared.refusal.Refusal.TheVariants.{Sheet}
+use Rattle.refusal.specs.declared.fault.Fault.{Fault}
+use Rattle.refusal.specs.declared.refusal.Refusal.{Refusal}
+use Rattle.refusal.specs.declared.refusal.Refusal.TheVariants.{Sheet}
 use Rattle.token.specs.Tokens.{leading_spaces, line_ends_in, token_at, Cursor, skip_spaces, after_token, next_token}
 use Rattle.token.proofs.Shows.{spaces_split, skip_close}
 use Rattle.token.proofs.Places.{skip_line, skip_place, after_line, after_place}

@@ -1,9 +1,9 @@
 -- The fault that a refused sheet is told: the first in byte order, with its line and place. Assumes nothing.
 use Rattle.std.specs.Prelude.{◌≡◌, ℕ, suc, ◌≤◌, List, [], ◌∷◌, ◌++◌, length, take, drop, ℤ, pos, ◌≤ℤ◌, Err}
 use Rattle.field.specs.Field.{FieldModel}
-use Rattle.board.specs.declared.refusal.Fault.{Fault}
-use Rattle.board.specs.declared.refusal.Refusal.{Refusal}
-use Rattle.board.specs.declared.refusal.Refusal.TheVariants.{Sheet}
+use Rattle.refusal.specs.declared.fault.Fault.{Fault}
+use Rattle.refusal.specs.declared.refusal.Refusal.{Refusal}
+use Rattle.refusal.specs.declared.refusal.Refusal.TheVariants.{Sheet}
 use Rattle.token.specs.Tokens.{token_at, leading_spaces, line_ends_in}
 use Rattle.sheet.specs.declared.terms.Terms.{Terms}
 use Rattle.expect.specs.Dues.{Due, Due.the, Due.equal, Due.within, Verdict.wrong, check}

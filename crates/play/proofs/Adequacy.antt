@@ -1,7 +1,7 @@
 -- Trials in order exist, and the runs of the promise are the ends of a trial. Assumes nothing but the laws of the field.
 use Rattle.std.proofs.Common.{◌≡◌, ℕ, suc, ◌+◌, ◌-◌, ◌*◌, List, [], ◌∷◌, ◌++◌, map, pos, refl, arith, ap, ◌∙◌}
 use lib.ListN.{length-replicate}
-use Rattle.board.specs.declared.game.Move.{Move}
+use Rattle.board.specs.declared.moves.Move.{Move}
 use Rattle.field.specs.Field.{FieldModel, LawfulField}
 use Rattle.question.proofs.SquaresLaw.{squares_lawful}
 use Rattle.host.specs.Notes.{HostState, host_noted, host_after}

@@ -1,8 +1,8 @@
 -- A trial in order ends with the true count. It follows from the promise: the trial's two runs are runs of a host and of a box told the same moves.
 -- Assumes nothing but the laws of the field.
 use Rattle.std.proofs.Common.{◌≡◌, ℕ, suc, ◌+◌, ◌*◌, ◌≤◌, true, cond, List, [], ◌∷◌, ◌++◌, map, length, drop, ℤ, Ok, Err, refl, ap, ◌∙◌, arith, length-append, le-leb}
-use Rattle.board.specs.declared.game.Move.{Move}
-use Rattle.board.specs.declared.refusal.Refusal.TheVariants.{BankShort, GridOutside}
+use Rattle.board.specs.declared.moves.Move.{Move}
+use Rattle.refusal.specs.declared.refusal.Refusal.TheVariants.{BankShort, GridOutside}
 use Rattle.board.specs.Banks.{room_for}
 use Rattle.board.specs.Books.{open_answer}
 use Rattle.board.specs.Grids.{grid_allowed}

@@ -1,7 +1,7 @@
 -- That the contract of a trial says what it should: trials in order exist, with just the memory that is wanted, and the promise's runs lead to the ends
 -- that a trial's contract names. Assumes nothing.
 use Rattle.std.specs.Prelude.{◌≡◌, ℕ, suc, ◌+◌, ◌-◌, ◌*◌, true, List, ◌∷◌, ◌++◌, map, replicate, pos, Ok}
-use Rattle.board.specs.declared.game.Move.{Move}
+use Rattle.board.specs.declared.moves.Move.{Move}
 use Rattle.board.specs.Grids.{grid_allowed}
 use Rattle.field.specs.Field.{FieldModel}
 use Rattle.question.specs.SquareSums.{squares_question}

@@ -1,8 +1,8 @@
 -- A trial: a host and a box are opened on the same grid, told the same moves and sealed; the host answers a question, and the box judges the sheet.
 -- Assumes nothing.
 use Rattle.std.specs.Prelude.{◌≡◌, ℕ, suc, ◌+◌, ◌*◌, ◌≤◌, true, List, length, take, ℤ, Ok, Err, Result}
-use Rattle.board.specs.declared.game.Move.{Move}
-use Rattle.board.specs.declared.refusal.Refusal.{Refusal}
+use Rattle.board.specs.declared.moves.Move.{Move}
+use Rattle.refusal.specs.declared.refusal.Refusal.{Refusal}
 use Rattle.board.specs.Grids.{grid_allowed}
 use Rattle.field.specs.Field.{FieldModel}
 use Rattle.question.specs.declared.outcome.Fit.TheVariants as fit

@@ -6,7 +6,8 @@ ghost use Rattle.play.specs.States.{sealed_host, sealed_verifier};
 ghost use Rattle.play.specs.Trials.{exchanged, trial, InOrder};
 
 use crate::telling::{tell_host, tell_verifier};
-use board::{Bank, Move, Refusal};
+use board::{Bank, Move};
+use refusal::Refusal;
 use field::Field;
 use question::Question;
 

@@ -1,6 +1,7 @@
 // This season's questions on a worked board, answered by a host.
 use crate::moves::MOVES;
-use board::{Bank, Refusal};
+use board::Bank;
+use refusal::Refusal;
 use extension::Extension;
 use field::Field;
 use prime::Mod65537;
@@ -99,7 +100,7 @@ fn squares_rule_at_t(rt: HostRuntime) -> Result<(), Fail> {
     }
     let grid = verifier.book().grid();
     let cells = sums.cells();
-    assert!(rt; cells.len() == grid.columns() as usize);
+    assert!(rt; cells.len() == grid.columns as usize);
     let value = Squares.rule(grid, t, cells);
     assert_eq!(rt; (value.low(), value.high()), (33, 65525));
     Ok(())

@@ -1,6 +1,7 @@
 // Sheets for the squares on a worked board, whose true count is 14, judged at several points.
 use crate::moves::MOVES;
-use board::{Bank, Fault, Refusal};
+use board::Bank;
+use refusal::{Fault, Refusal};
 use extension::Extension;
 use field::Field;
 use prime::{Mersenne31, Mod65537};

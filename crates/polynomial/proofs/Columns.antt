@@ -3,7 +3,8 @@ use Rattle.std.proofs.Common.{◌≡◌, ℕ, ◌+◌, ◌*◌, ◌/◌, ◌%◌
 use lib.Arith.{digits_div, digits_mod, digits_lt}
 use Rattle.field.specs.Field.{FieldModel, LawfulField, InRange}
 use Rattle.field.proofs.Solver.{sides, solve, mul-zero}
-use Rattle.polynomial.specs.Lists.{Each, listed}
+use Rattle.polynomial.specs.Lists.{listed}
+use Rattle.std.specs.List.{AllByRecursion}
 use Rattle.polynomial.specs.Polynomials.{eval}
 use Rattle.polynomial.specs.Interpolation.{node, chi}
 use Rattle.polynomial.specs.Columns.{count_at, column, columns, row, column_polynomial, Extension}
@@ -109,7 +110,7 @@ module _ {K : Type 0} {F : FieldModel K} (L : LawfulField F) where
     unfolding column_polynomials
     length-columns = length-listed 0 v (column_polynomial F h v fs)
 
-    pub short_columns : h ≤ 65537 → Each (λ p. length p ≤ h) column_polynomials
+    pub short_columns : h ≤ 65537 → AllByRecursion (λ p. length p ≤ h) column_polynomials
     unfolding column_polynomials
     short_columns b = each_listed _ 0 v (column_polynomial F h v fs) (short_column b)
 

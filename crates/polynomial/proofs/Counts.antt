@@ -1,7 +1,8 @@
 -- Points that are each a root of one of several polynomials are no more than the degrees come to. Assumes nothing but the laws of the field.
 use Rattle.std.proofs.Common.{◌≡◌, ◌+◌, ◌≤◌, ◌⊎◌, List, [], ◌∷◌, length, refl, inl, inr, arith}
 use Rattle.field.specs.Field.{FieldModel, LawfulField}
-use Rattle.polynomial.specs.Lists.{Each, Any, Distinct}
+use Rattle.polynomial.specs.Lists.{AnyByRecursion, Distinct}
+use Rattle.std.specs.List.{AllByRecursion}
 use Rattle.polynomial.specs.Polynomials.{Root, Counting}
 use Rattle.polynomial.proofs.Roots.{root_bound}
 
@@ -17,12 +18,12 @@ module _ {A : Type 0} where
   split_length (first s) = let e = split_length s in omega arith
   split_length (second s) = let e = split_length s in omega arith
 
-  pub each_first : (P : A → Type 0) {xs ys zs : List A} → Split xs ys zs → Each P xs → Each P ys
+  pub each_first : (P : A → Type 0) {xs ys zs : List A} → Split xs ys zs → AllByRecursion P xs → AllByRecursion P ys
   each_first P none h = tt
   each_first P (first s) h = (h.0, each_first P s h.1)
   each_first P (second s) h = each_first P s h.1
 
-  pub each_second : (P : A → Type 0) {xs ys zs : List A} → Split xs ys zs → Each P xs → Each P zs
+  pub each_second : (P : A → Type 0) {xs ys zs : List A} → Split xs ys zs → AllByRecursion P xs → AllByRecursion P zs
   each_second P none h = tt
   each_second P (first s) h = each_second P s h.1
   each_second P (second s) h = (h.0, each_second P s h.1)
@@ -42,10 +43,10 @@ module _ {A : Type 0} where
     pub left : List A
     pub right : List A
     pub split : Split xs left right
-    pub lefts : Each P left
-    pub rights : Each Q right
+    pub lefts : AllByRecursion P left
+    pub rights : AllByRecursion Q right
 
-  pub sort : {P Q : A → Type 0} (xs : List A) → Each (λ x. P x ⊎ Q x) xs → Sorted P Q xs
+  pub sort : {P Q : A → Type 0} (xs : List A) → AllByRecursion (λ x. P x ⊎ Q x) xs → Sorted P Q xs
   sort [] h = record { left = []; right = []; split = none; lefts = tt; rights = tt }
   sort {P} {Q} (x ∷ xs) h = go h.0 (sort xs h.1)
     where
@@ -54,14 +55,14 @@ module _ {A : Type 0} where
       go (inr q) s = record { left = s.left; right = x ∷ s.right; split = second s.split; lefts = s.lefts; rights = (q, s.rights) }
 
 module _ {K : Type 0} {F : FieldModel K} (L : LawfulField F) where
-  no_points : (rs : List K) → Each (λ r. ⊥) rs → length rs ≤ 0
+  no_points : (rs : List K) → AllByRecursion (λ r. ⊥) rs → length rs ≤ 0
   no_points [] h = omega arith
   no_points (r ∷ rs) h = absurd h.0
 
   pub counting : Counting F
   counting [] rs ds h = no_points rs h
   counting (b ∷ bs) rs ds h =
-      let s : Sorted (Root F b.poly) (λ r. Any (λ c. Root F c.poly r) bs) rs = sort rs h in
+      let s : Sorted (Root F b.poly) (λ r. AnyByRecursion (λ c. Root F c.poly r) bs) rs = sort rs h in
       let m = root_bound L b.degree b.poly b.fits b.nonzero s.left (distinct_first s.split ds) s.lefts in
       let n = counting bs s.right (distinct_second s.split ds) s.rights in
       omega (arith, split_length s.split)

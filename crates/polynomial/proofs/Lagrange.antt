@@ -1,12 +1,12 @@
 -- The polynomials of Lagrange, and the one that takes given values at the nodes. Assumes nothing but the laws of the field.
 use Rattle.std.proofs.Common.{◌≡◌, ℕ, zero, suc, ◌+◌, ◌<◌, ◌≤◌, ◌≢◌, ◌⊎◌, List, [], ◌∷◌, length, get_or, sym, refl, ap, ◌∙◌, ap₂, inl, inr, arith}
 use Rattle.field.specs.Field.{FieldModel, LawfulField}
-use Rattle.polynomial.specs.Polynomials.{sub, eval, scaled, sum, product, Root, Nonzero}
+use Rattle.polynomial.specs.Polynomials.{sub, eval, scaled, poly_add, poly_mul, Root, Nonzero}
 use Rattle.polynomial.specs.Interpolation.{except, node, factor, chi, linear, basis, blend, interpolant, Takes, LagrangeBasis, Interpolation}
 use Rattle.field.proofs.Solver.{sides, solve, mul-zero, zero-mul, zero-add}
 use Rattle.field.proofs.Sameness.{decided}
 use Rattle.field.proofs.Consequences.{one_not_zero}
-use Rattle.polynomial.proofs.Evals.{eval_scaled, eval-sum, eval-product, length_scaled, length-sum, length-product}
+use Rattle.polynomial.proofs.Evals.{eval_scaled, eval-poly_add, eval-poly_mul, length_scaled, length-poly_add, length-poly_mul}
 use Rattle.polynomial.proofs.Roots.{root_bound, sub-zero}
 use Rattle.polynomial.proofs.Nodes.{sub_nonzero, nodes, length_nodes, each_node, distinct_nodes, others, length_others, each_other, distinct_others}
 use Rattle.polynomial.proofs.Excepts.{eqb_cases, except_same, except_other, except_cong, except_map}
@@ -40,24 +40,24 @@ module _ {K : Type 0} {F : FieldModel K} (L : LawfulField F) where
   length_any (suc n) x = go (eqb_cases n x) (length_any n x)
     where
       go : (n ≡ x) ⊎ (n ≢ x) → length (basis F n x) ≤ suc n → length (basis F (suc n) x) ≤ suc (suc n)
-      go (inl e) r = omega (arith, ap length (except_same (product F) (F.one ∷ []) (linear F x) n x e))
-      go (inr e) r = omega (arith, ap length (except_other (product F) (F.one ∷ []) (linear F x) n x e), length-product L (linear F x n) (basis F n x) 1 n (omega arith) r)
+      go (inl e) r = omega (arith, ap length (except_same (poly_mul F) (F.one ∷ []) (linear F x) n x e))
+      go (inr e) r = omega (arith, ap length (except_other (poly_mul F) (F.one ∷ []) (linear F x) n x e), length-poly_mul L (linear F x n) (basis F n x) 1 n (omega arith) r)
 
   length-basis : (h x : ℕ) → x < h → length (basis F h x) ≤ h
   length-basis zero x b = absurd (omega arith)
   length-basis (suc n) x b = go n (eqb_cases n x) (length-basis n x) b
     where
       go : (n : ℕ) → (n ≡ x) ⊎ (n ≢ x) → (x < n → length (basis F n x) ≤ n) → x < suc n → length (basis F (suc n) x) ≤ suc n
-      go n (inl e) r b = omega (arith, ap length (except_same (product F) (F.one ∷ []) (linear F x) n x e), length_any n x)
+      go n (inl e) r b = omega (arith, ap length (except_same (poly_mul F) (F.one ∷ []) (linear F x) n x e), length_any n x)
       go zero (inr e) r b = absurd (omega arith)
-      go (suc n) (inr e) r b = omega (arith, ap length (except_other (product F) (F.one ∷ []) (linear F x) (suc n) x e), length-product L (linear F x (suc n)) (basis F (suc n) x) 1 n (omega arith) (r (omega arith)))
+      go (suc n) (inr e) r b = omega (arith, ap length (except_other (poly_mul F) (F.one ∷ []) (linear F x) (suc n) x e), length-poly_mul L (linear F x (suc n)) (basis F (suc n) x) 1 n (omega arith) (r (omega arith)))
 
   eval_linear : (x k : ℕ) (X : K) → eval F (linear F x k) X ≡ factor F x X k
   eval_linear x k X = solve L.ring (node F k ∷ F.inv (sub F (node F x) (node F k)) ∷ X ∷ []) (search sides depth 30) refl
 
   pub eval-basis : (h x : ℕ) (X : K) → eval F (basis F h x) X ≡ chi F h x X
   eval-basis h x X =
-      except_map (product F) (F.one ∷ []) F.mul F.one (λ p. eval F p X) (solve L.ring (X ∷ []) (search sides depth 30) refl) (λ a b. eval-product L a b X) (linear F x) h x
+      except_map (poly_mul F) (F.one ∷ []) F.mul F.one (λ p. eval F p X) (solve L.ring (X ∷ []) (search sides depth 30) refl) (λ a b. eval-poly_mul L a b X) (linear F x) h x
       ∙ except_cong F.mul F.one (λ k. eval F (linear F x k) X) (factor F x X) h x (λ k b d. eval_linear x k X)
 
   pub chi_here : (h x : ℕ) → h ≤ 65537 → x ≤ 65536 → chi F h x (node F x) ≡ F.one
@@ -96,7 +96,7 @@ module _ {K : Type 0} {F : FieldModel K} (L : LawfulField F) where
   pub eval_blend : (h j : ℕ) (vs : List K) (X : K) → eval F (blend F h j vs) X ≡ mixed h j vs X
   eval_blend h j [] X = refl
   eval_blend h j (v ∷ vs) X =
-      eval-sum L (scaled F v (basis F h j)) (blend F h (suc j) vs) X
+      eval-poly_add L (scaled F v (basis F h j)) (blend F h (suc j) vs) X
       ∙ ap₂ F.add (eval_scaled L v (basis F h j) X ∙ ap (F.mul v) (eval-basis h j X)) (eval_blend h (suc j) vs X)
 
   mixed_before : (h j : ℕ) (vs : List K) (y : ℕ) → y < j → y < h → mixed h j vs (node F y) ≡ F.zero
@@ -118,7 +118,7 @@ module _ {K : Type 0} {F : FieldModel K} (L : LawfulField F) where
   length_blend : (h j : ℕ) (vs : List K) → j + length vs ≤ h → length (blend F h j vs) ≤ h
   length_blend h j [] b = omega arith
   length_blend h j (v ∷ vs) b =
-      length-sum L (scaled F v (basis F h j)) (blend F h (suc j) vs) h
+      length-poly_add L (scaled F v (basis F h j)) (blend F h (suc j) vs) h
       (omega (arith, length_scaled L v (basis F h j), length-basis h j (omega arith))) (length_blend h (suc j) vs (omega arith))
 
   -- two polynomials of h coefficients at most that agree at the nodes below h agree
@@ -126,15 +126,15 @@ module _ {K : Type 0} {F : FieldModel K} (L : LawfulField F) where
   agree h p q b hp hq e X = sub-zero L (eval F p X) (eval F q X) (sym (difference X) ∙ everywhere)
     where
       r : List K
-      r = sum F p (scaled F (F.neg F.one) q)
+      r = poly_add F p (scaled F (F.neg F.one) q)
 
       difference : (Y : K) → eval F r Y ≡ sub F (eval F p Y) (eval F q Y)
       difference Y =
-          eval-sum L p (scaled F (F.neg F.one) q) Y ∙ ap (F.add (eval F p Y)) (eval_scaled L (F.neg F.one) q Y)
+          eval-poly_add L p (scaled F (F.neg F.one) q) Y ∙ ap (F.add (eval F p Y)) (eval_scaled L (F.neg F.one) q Y)
           ∙ solve L.ring (eval F p Y ∷ eval F q Y ∷ []) (search sides depth 30) refl
 
       short : length r ≤ h
-      short = length-sum L p (scaled F (F.neg F.one) q) h hp (omega (arith, length_scaled L (F.neg F.one) q))
+      short = length-poly_add L p (scaled F (F.neg F.one) q) h hp (omega (arith, length_scaled L (F.neg F.one) q))
 
       roots : (k : ℕ) → k < h → Root F r (node F k)
       roots k c = difference (node F k) ∙ ap (λ w. F.add (eval F p (node F k)) (F.neg w)) (sym (e k c)) ∙ L.ring.add-neg _

@@ -4,7 +4,8 @@ use native.Mathlib.Decide.{dec_lt}
 use Rattle.field.specs.Field.{FieldModel, LawfulField}
 use Rattle.field.proofs.Solver.{sides, solve, add_cancel}
 use Rattle.field.proofs.Consequences.{image_nonzero, inv-neg}
-use Rattle.polynomial.specs.Lists.{Each, Distinct}
+use Rattle.polynomial.specs.Lists.{Distinct}
+use Rattle.std.specs.List.{AllByRecursion}
 use Rattle.polynomial.specs.Polynomials.{sub}
 use Rattle.polynomial.specs.Interpolation.{except, node}
 use Rattle.polynomial.proofs.Roots.{sub-zero}
@@ -58,7 +59,7 @@ module _ {K : Type 0} {F : FieldModel K} (L : LawfulField F) where
   length_nodes zero = refl
   length_nodes (suc k) = ap suc (length_nodes k)
 
-  pub each_node : (P : K → Type 0) (n : ℕ) → ((k : ℕ) → k < n → P (node F k)) → Each P (nodes n)
+  pub each_node : (P : K → Type 0) (n : ℕ) → ((k : ℕ) → k < n → P (node F k)) → AllByRecursion P (nodes n)
   unfolding nodes
   each_node P zero h = tt
   each_node P (suc n) h = (h n (omega arith), each_node P n (λ k b. h k (omega arith)))
@@ -86,14 +87,14 @@ module _ {K : Type 0} {F : FieldModel K} (L : LawfulField F) where
       beyond zero x h = refl
       beyond (suc n) x h = ap length (except_other ◌++◌ [] (λ k. node F k ∷ []) n x (omega arith)) ∙ ap suc (beyond n x (omega arith))
 
-  pub each_other : (P : K → Type 0) (n x : ℕ) → ((k : ℕ) → k < n → k ≢ x → P (node F k)) → Each P (others n x)
+  pub each_other : (P : K → Type 0) (n x : ℕ) → ((k : ℕ) → k < n → k ≢ x → P (node F k)) → AllByRecursion P (others n x)
   unfolding others
   each_other P zero x h = tt
   each_other P (suc n) x h = go (eqb_cases n x) (each_other P n x (λ k b d. h k (omega arith) d))
     where
-      go : (n ≡ x) ⊎ (n ≢ x) → Each P (others n x) → Each P (others (suc n) x)
-      go (inl e) r = subst (Each P) (sym (except_same ◌++◌ [] (λ k. node F k ∷ []) n x e)) r
-      go (inr e) r = subst (Each P) (sym (except_other ◌++◌ [] (λ k. node F k ∷ []) n x e)) (h n (omega arith) e, r)
+      go : (n ≡ x) ⊎ (n ≢ x) → AllByRecursion P (others n x) → AllByRecursion P (others (suc n) x)
+      go (inl e) r = subst (AllByRecursion P) (sym (except_same ◌++◌ [] (λ k. node F k ∷ []) n x e)) r
+      go (inr e) r = subst (AllByRecursion P) (sym (except_other ◌++◌ [] (λ k. node F k ∷ []) n x e)) (h n (omega arith) e, r)
 
   pub distinct_others : (n x : ℕ) → n ≤ 65537 → Distinct (others n x)
   unfolding others

@@ -1,7 +1,7 @@
 -- The roots of a polynomial: no more than its degree. Assumes nothing but the laws of the field.
 use Rattle.std.proofs.Common.{◌≡◌, ℕ, zero, suc, ◌≤◌, ◌≢◌, List, [], ◌∷◌, length, sym, refl, ap, ◌∙◌, ap₂, arith}
 use Rattle.field.specs.Field.{FieldModel, LawfulField}
-use Rattle.polynomial.specs.Lists.{Each}
+use Rattle.std.specs.List.{AllByRecursion}
 use Rattle.polynomial.specs.Polynomials.{sub, eval, Root, Nonzero, RootBound}
 use Rattle.field.proofs.Solver.{sides, solve, mul-zero, zero-add}
 use Rattle.field.proofs.Consequences.{factor_zero}
@@ -40,7 +40,7 @@ module _ {K : Type 0} {F : FieldModel K} (L : LawfulField F) where
       (sym (L.ring.add-zero _) ∙ ap (F.add (F.mul (sub F s r) (eval F (quot r p) s))) (sym e) ∙ sym (eval-quot r p s) ∙ k)
       (λ z. h (sym (sub-zero s r z)))
 
-  roots_quot : (r : K) (p : List K) → Root F p r → (rs : List K) → Each (λ s. r ≢ s) rs → Each (Root F p) rs → Each (Root F (quot r p)) rs
+  roots_quot : (r : K) (p : List K) → Root F p r → (rs : List K) → AllByRecursion (λ s. r ≢ s) rs → AllByRecursion (Root F p) rs → AllByRecursion (Root F (quot r p)) rs
   roots_quot r p e [] h k = tt
   roots_quot r p e (s ∷ rs) h k = (root_quot r p e s h.0 k.0, roots_quot r p e rs h.1 k.1)
 

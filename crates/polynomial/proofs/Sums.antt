@@ -3,7 +3,8 @@ use Rattle.std.proofs.Common.{◌≡◌, ℕ, zero, suc, ◌+◌, ◌*◌, ◌<�
 use Rattle.std.proofs.lemmas.List.{take_more}
 use Rattle.field.specs.Field.{FieldModel, LawfulField}
 use Rattle.field.proofs.Solver.{sides, solve, zero-add}
-use Rattle.polynomial.specs.Lists.{Each, listed}
+use Rattle.polynomial.specs.Lists.{listed}
+use Rattle.std.specs.List.{AllByRecursion}
 use Rattle.polynomial.specs.Sums.{sum_from, list_sum}
 use Rattle.polynomial.specs.Interpolation.{chi}
 use Rattle.polynomial.proofs.Excepts.{eqb_cases}
@@ -29,7 +30,7 @@ module _ {A : Type 0} where
   listed_cong j zero f g h = refl
   listed_cong j (suc n) f g h = ap₂ ◌∷◌ (h j (omega arith) (omega arith)) (listed_cong (suc j) n f g (λ i b c. h i (omega arith) (omega arith)))
 
-  pub each_listed : (P : A → Type 0) (j n : ℕ) (f : ℕ → A) → ((i : ℕ) → P (f i)) → Each P (listed j n f)
+  pub each_listed : (P : A → Type 0) (j n : ℕ) (f : ℕ → A) → ((i : ℕ) → P (f i)) → AllByRecursion P (listed j n f)
   each_listed P j zero f h = tt
   each_listed P j (suc n) f h = (h j, each_listed P (suc j) n f h)
 

@@ -1,7 +1,7 @@
 -- Polynomials through given values at the nodes 0, 1, 2, .. of a field. Assumes nothing.
 use Rattle.std.specs.Prelude.{◌≡◌, ℕ, zero, suc, ◌<◌, ◌≤◌, cond, ◌≢◌, List, [], ◌∷◌, length, pos, ◌==◌, slice_index_or}
 use Rattle.field.specs.Field.{FieldModel}
-use Rattle.polynomial.specs.Polynomials.{sub, eval, scaled, sum, product}
+use Rattle.polynomial.specs.Polynomials.{sub, eval, scaled, poly_add, poly_mul}
 
 -- f (n − 1) op (.. op (f 0 op unit)), without f x
 abbrev pub except : {A : Type 0} → (A → A → A) → A → (ℕ → A) → ℕ → ℕ → A
@@ -27,12 +27,12 @@ module _ {K : Type 0} (F : FieldModel K) where
 
   -- χ_x on h rows as a polynomial
   abbrev pub basis : ℕ → ℕ → List K
-  basis h x = except (product F) (F.one ∷ []) (linear x) h x
+  basis h x = except (poly_mul F) (F.one ∷ []) (linear x) h x
 
   -- the sum of v χ_x over the values v, the first of them at x = j
   abbrev pub blend : ℕ → ℕ → List K → List K
   blend h j [] = []
-  blend h j (v ∷ vs) = sum F (scaled F v (basis h j)) (blend h (suc j) vs)
+  blend h j (v ∷ vs) = poly_add F (scaled F v (basis h j)) (blend h (suc j) vs)
 
   -- the polynomial through the values vs at 0, 1, 2, ..
   abbrev pub interpolant : List K → List K

@@ -2,8 +2,8 @@
 use Rattle.std.proofs.Common.{◌≡◌, ℕ, ◌*◌, true, cond, List, [], length, replicate, pos, Ok, Err, refl, ap₂, arith, le-leb}
 use lib.ListN.{length-replicate}
 use Rattle.field.specs.Field.{FieldModel}
-use Rattle.board.specs.declared.game.Move.{Move}
-use Rattle.board.specs.declared.refusal.Refusal.TheVariants.{GridOutside, BankShort}
+use Rattle.board.specs.declared.moves.Move.{Move}
+use Rattle.refusal.specs.declared.refusal.Refusal.TheVariants.{GridOutside, BankShort}
 use Rattle.board.specs.Books.{open_answer}
 use Rattle.board.specs.Grids.{grid_allowed}
 use Rattle.promise.specs.Ends.{VerifierOpening, verifier_end, HostOpening, host_end}

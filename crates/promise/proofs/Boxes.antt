@@ -2,11 +2,11 @@
 use Rattle.std.proofs.Common.{◌≡◌, ℕ, ◌≤◌, true, List, length, take, ℤ, Ok, sym, ap, ◌∙◌, subst, inr, arith}
 use mathlib.Core.Path.{subst₃}
 use Rattle.field.specs.Field.{FieldModel, LawfulField}
-use Rattle.board.specs.declared.game.Move.{Move}
+use Rattle.board.specs.declared.moves.Move.{Move}
 use Rattle.board.specs.Grids.{grid_allowed}
 use Rattle.board.specs.Ledger.{ledger}
 use Rattle.board.proofs.Ledgers.{kept}
-use Rattle.polynomial.specs.Lists.{Each}
+use Rattle.std.specs.List.{AllByRecursion}
 use Rattle.polynomial.specs.Columns.{columns}
 use Rattle.question.specs.Question.{Within}
 use Rattle.verifier.specs.Notes.{VerifierState}
@@ -47,7 +47,7 @@ module _ {K : Type 0} {F : FieldModel K} (L : LawfulField F) where
   -- the box at the end of a run, and all that was judged in it
   pub record Settled (h v : ℕ) (ms : List Move) (r : K) (x : VerifierState K) (gs : List (Judging K × Judgement K)) : Type 0 where
     pub holds : Holding h v ms r x
-    pub all : Each (JudgedBy h v ms r) gs
+    pub all : AllByRecursion (JudgedBy h v ms r) gs
 
   pub settled : (h v : ℕ) (ms : List Move) (r : K) (run : SealedVerifier F h v ms r) → Settled h v ms r run.verifier (judgings F h v ms run)
   settled h v ms r run = subst₃ (λ a b c. Settled a b ms c x gs) run.rows run.columns run.point (subst (λ ns. Settled o.rows o.columns ns o.point x gs) run.told there)

@@ -2,10 +2,11 @@
 -- Assumes nothing but the laws of the field, and of the questions.
 use Rattle.std.proofs.Common.{◌≡◌, ℕ, ◌≤◌, Bool, true, false, cond, ◌&&◌, ltb, ◌≢◌, List, [], ◌∷◌, length, ℤ, ◌-ℤ◌, nat_abs, Ok, Err, Result, sym, refl, ap, ◌∙◌, subst, ap₂, true≢false, arith}
 use Rattle.field.specs.Field.{FieldModel, LawfulField}
-use Rattle.board.specs.declared.game.Move.{Move}
-use Rattle.board.specs.declared.refusal.Refusal.{Refusal}
+use Rattle.board.specs.declared.moves.Move.{Move}
+use Rattle.refusal.specs.declared.refusal.Refusal.{Refusal}
 use Rattle.board.specs.Grids.{grid_allowed}
-use Rattle.polynomial.specs.Lists.{Each, Any, Distinct}
+use Rattle.polynomial.specs.Lists.{AnyByRecursion, Distinct}
+use Rattle.std.specs.List.{AllByRecursion}
 use Rattle.polynomial.specs.Columns.{columns}
 use Rattle.polynomial.proofs.Counts.{Sorted, sort, split_length, distinct_first, distinct_second}
 use Rattle.question.specs.Question.{Fits, LawfulQuestion}
@@ -54,7 +55,7 @@ module _ {K : Type 0} {F : FieldModel K} (L : LawfulField F) (h v : ℕ) (ms : L
   values_of (Err e) = []
 
   -- one sheet that claims falsely is accepted at no more points than its degree
-  entry_few : (e : Entry K) → LawfulQuestion F e.question → claims_falsely F h v ms e ≡ true → (rs : List K) → Distinct rs → Each (λ r. AcceptedAt r e) rs → length rs ≤ e.question.degree h
+  entry_few : (e : Entry K) → LawfulQuestion F e.question → claims_falsely F h v ms e ≡ true → (rs : List K) → Distinct rs → AllByRecursion (λ r. AcceptedAt r e) rs → length rs ≤ e.question.degree h
   unfolding values_of
   entry_few e Q f [] d a = omega arith
   entry_few e Q f (r ∷ rs) d a =
@@ -71,28 +72,28 @@ module _ {K : Type 0} {F : FieldModel K} (L : LawfulField F) (h v : ℕ) (ms : L
       (λ s y. subst (λ ws. Agree F q h v ws s (columns F h v fs s)) (ap values_of (sym y.passed.reads ∙ p.reads)) y.passed.agrees) a)
 
   -- the points of several sheets are no more than the degrees of those that claim falsely
-  entries_few : (es : List (Entry K)) → Each (λ e. LawfulQuestion F e.question) es → (rs : List K) → Distinct rs → Each (λ r. Any (FalselyAt r) es) rs → length rs ≤ false_degrees F h v ms es
+  entries_few : (es : List (Entry K)) → AllByRecursion (λ e. LawfulQuestion F e.question) es → (rs : List K) → Distinct rs → AllByRecursion (λ r. AnyByRecursion (FalselyAt r) es) rs → length rs ≤ false_degrees F h v ms es
   entries_few [] Q [] d a = omega arith
   entries_few [] Q (r ∷ rs) d a = absurd a.0
   entries_few (e ∷ es) Q rs d a =
-      let s : Sorted (λ r. FalselyAt r e) (λ r. Any (FalselyAt r) es) rs = sort rs a in
+      let s : Sorted (λ r. FalselyAt r e) (λ r. AnyByRecursion (FalselyAt r) es) rs = sort rs a in
       let here = at_most (claims_falsely F h v ms e) refl s.left (distinct_first s.split d) s.lefts in
       let others = entries_few es Q.1 s.right (distinct_second s.split d) s.rights in
       omega (arith, split_length s.split)
     where
-      at_most : (b : Bool) → claims_falsely F h v ms e ≡ b → (rs : List K) → Distinct rs → Each (λ r. FalselyAt r e) rs → length rs ≤ cond (claims_falsely F h v ms e) (e.question.degree h) 0
+      at_most : (b : Bool) → claims_falsely F h v ms e ≡ b → (rs : List K) → Distinct rs → AllByRecursion (λ r. FalselyAt r e) rs → length rs ≤ cond (claims_falsely F h v ms e) (e.question.degree h) 0
       at_most true f rs d a = rw f (entry_few e Q.0 f rs d (each_map _ _ rs (λ r z. z.1) a))
       at_most false f [] d a = rw f (omega arith)
       at_most false f (r ∷ rs) d a = absurd (true≢false (sym a.0.0 ∙ f))
 
   -- at a point where a run accepts a listed sheet that claims falsely, one of the list is accepted so
-  fooled_entry : (es : List (Entry K)) (r : K) → Fooled F h v ms es r → Any (FalselyAt r) es
+  fooled_entry : (es : List (Entry K)) (r : K) → Fooled F h v ms es r → AnyByRecursion (FalselyAt r) es
   fooled_entry es r k =
       let gs = judgings F h v ms k.judges.run in
       let found = pick _ _ gs k.accepts (each_both _ _ gs k.judges.listed (settled L h v ms r k.judges.run).all) in
       go found.0 found.1.0 found.1.1 found.1.2 found.2.0 found.2.1
     where
-      go : (g : Judging K × Judgement K) (c : ℤ) → g.1.answer ≡ Ok c → FalseClaim F h v ms (entry_of g.0) → Any (λ e. e ≡ entry_of g.0) es → JudgedBy L h v ms r g → Any (FalselyAt r) es
+      go : (g : Judging K × Judgement K) (c : ℤ) → g.1.answer ≡ Ok c → FalseClaim F h v ms (entry_of g.0) → AnyByRecursion (λ e. e ≡ entry_of g.0) es → JudgedBy L h v ms r g → AnyByRecursion (FalselyAt r) es
       go g c a f o j =
           any_map _ _ es
           (λ e s. (subst (λ w. claims_falsely F h v ms w ≡ true) (sym s) (tests_true F h v ms (entry_of g.0) f), subst (AcceptedAt r) (sym s) (record { allowed = j.holds.allowed; claim = c; passed = accepted_at L h v ms r g c j a })))

@@ -2,7 +2,7 @@
 use Rattle.std.proofs.Common.{◌≡◌, ℕ, ◌*◌, ◌≤◌, true, List, length, take, drop, ℤ, refl, ap, ◌∙◌, inr, arith, take_at, drop_at}
 use mathlib.Core.Path.{subst₃}
 use Rattle.field.specs.Field.{FieldModel, LawfulField}
-use Rattle.board.specs.declared.game.Move.{Move}
+use Rattle.board.specs.declared.moves.Move.{Move}
 use Rattle.board.specs.Grids.{grid_allowed}
 use Rattle.board.specs.Ledger.{ledger}
 use Rattle.question.specs.Question.{Fits}

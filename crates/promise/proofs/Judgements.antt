@@ -3,8 +3,8 @@
 use Rattle.std.proofs.Common.{◌≡◌, ℕ, suc, ◌≤◌, Bool, true, false, cond, ◌&&◌, ltb, leb, List, length, take, ℤ, Ok, Err, Result, refl, ap, ◌∙◌, subst, ap₂, arith, le-ltb, lt-ltb, le-leb}
 use Rattle.field.specs.Field.{FieldModel, LawfulField, InRange, same}
 use Rattle.field.proofs.Sameness.{same_true, same_eq}
-use Rattle.board.specs.declared.refusal.Refusal.{Refusal}
-use Rattle.board.specs.declared.refusal.Refusal.TheVariants.{BankShort, QuestionUnfit, TrayShort}
+use Rattle.refusal.specs.declared.refusal.Refusal.{Refusal}
+use Rattle.refusal.specs.declared.refusal.Refusal.TheVariants.{BankShort, QuestionUnfit, TrayShort}
 use Rattle.board.proofs.Grids.{allowed_grid}
 use Rattle.polynomial.specs.Sums.{list_sum}
 use Rattle.polynomial.specs.Polynomials.{eval}

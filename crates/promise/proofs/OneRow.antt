@@ -1,9 +1,9 @@
 -- On one row no false claim is accepted anywhere. Assumes nothing but the laws of the field and of the questions.
 use Rattle.std.proofs.Common.{◌≡◌, ℕ, ◌≤◌, Bool, true, false, cond, List, [], ◌∷◌, refl, arith}
 use Rattle.field.specs.Field.{FieldModel, LawfulField}
-use Rattle.board.specs.declared.game.Move.{Move}
+use Rattle.board.specs.declared.moves.Move.{Move}
 use Rattle.board.specs.Grids.{grid_allowed}
-use Rattle.polynomial.specs.Lists.{Each}
+use Rattle.std.specs.List.{AllByRecursion}
 use Rattle.question.specs.Question.{LawfulQuestion}
 use Rattle.promise.specs.Claims.{Entry, claims_falsely, false_degrees}
 use Rattle.promise.specs.Adequacy.{NoneOnOneRow}
@@ -13,7 +13,7 @@ use Rattle.promise.proofs.FalseClaims.{few_points}
 
 module _ {K : Type 0} (F : FieldModel K) where
   -- the degrees of lawful questions on one row are 0
-  no_degrees : (v : ℕ) (ms : List Move) → grid_allowed 1 v ≡ true → (es : List (Entry K)) → Each (λ e. LawfulQuestion F e.question) es → false_degrees F 1 v ms es ≤ 0
+  no_degrees : (v : ℕ) (ms : List Move) → grid_allowed 1 v ≡ true → (es : List (Entry K)) → AllByRecursion (λ e. LawfulQuestion F e.question) es → false_degrees F 1 v ms es ≤ 0
   no_degrees v ms g [] Q = omega arith
   no_degrees v ms g (e ∷ es) Q = let here = go (claims_falsely F 1 v ms e) refl in omega (arith, here, no_degrees v ms g es Q.1)
     where

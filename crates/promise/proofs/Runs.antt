@@ -1,13 +1,13 @@
 -- Runs of an end that stands in a relation to a ledger: the relation holds at the run's end, the notes are answered as the ledger answers them,
 -- and a sealed end stood in the relation whenever it replied. Assumes nothing.
 use Rattle.std.proofs.Common.{◌≡◌, ℕ, List, [], ◌∷◌, Ok, Err, Result, sym, refl, subst, ap₂, inl, inr}
-use mathlib.Core.Option.{some}
-use Rattle.polynomial.specs.Lists.{Each}
-use Rattle.board.specs.declared.game.Move.{Move}
-use Rattle.board.specs.declared.refusal.Refusal.{Refusal}
+use mathlib.Core.Option.{Some}
+use Rattle.std.specs.List.{AllByRecursion}
+use Rattle.board.specs.declared.moves.Move.{Move}
+use Rattle.refusal.specs.declared.refusal.Refusal.{Refusal}
 use Rattle.board.specs.Books.{ledger_standing}
 use Rattle.board.specs.Ledger.{Ledger, ledger_start, ledger_answer, ledger_next, ledger_from, answers_from}
-use Rattle.promise.specs.Runs.{End, Request, opening, noting, sealing, asking, State, closed, listening, sealed, moves, begun, Shaped, after, granted, granted_by, note_answers, replies}
+use Rattle.promise.specs.Runs.{End, Request, opening, noting, sealing, asking, State, closed, listening, sealed, moves, begun, Shaped, after, granted_open, granted_by, note_answers, replies}
 use Rattle.promise.specs.Ledgers.{Open, AlwaysLedger}
 
 -- what holds of the end in a state, if it is open
@@ -45,7 +45,7 @@ module _ {O X Q A : Type 0} {E : End O X Q A} {W : ℕ} {Stands : O → Ledger �
   pub record RanFrom (o : O) (l : Ledger) (s : State X) (rs : List (Request O Q)) (x : X) : Type 0 where
     pub stands : Stands o (fed o l (moves rs)) x
     pub answers : note_answers E s rs ≡ answers_from (E.rows o) (E.columns o) W l (moves rs)
-    pub replied : Each (Replied o (fed o l (moves rs))) (replies E s rs)
+    pub replied : AllByRecursion (Replied o (fed o l (moves rs))) (replies E s rs)
 
   -- a sealed end is told no moves
   no_moves : (x : X) (rs : List (Request O Q)) → Shaped E (sealed x) rs → moves rs ≡ []
@@ -86,14 +86,14 @@ module _ {O X Q A : Type 0} {E : End O X Q A} {W : ℕ} {Stands : O → Ledger �
   abbrev pub Ran : List (Request O Q) → O → X → Type 0
   Ran rs o x = RanFrom o (ledger_start (E.rows o) (E.columns o)) closed rs x
 
-  ran : (rs : List (Request O Q)) → Shaped E closed rs → (o : O) → granted E rs ≡ some o → Holds (Ran rs o) (after E closed rs)
+  ran : (rs : List (Request O Q)) → Shaped E closed rs → (o : O) → granted_open E rs ≡ Some o → Holds (Ran rs o) (after E closed rs)
   ran [] s o g = tt
   ran (opening p ∷ rs) s o g =
       holds_map (RanFrom o (ledger_start (E.rows o) (E.columns o)) (begun E (E.grant p) p) rs) (Ran (opening p ∷ rs) o) _
       (λ y r. record { stands = r.stands; answers = r.answers; replied = r.replied })
       (go (E.grant p) refl s.1 g (λ t. ran rs t o))
     where
-      go : (a : Result (Unit {0}) Refusal) → E.grant p ≡ a → Shaped E (begun E a p) rs → granted_by E a p (granted E rs) ≡ some o → (Shaped E closed rs → granted E rs ≡ some o → Holds (Ran rs o) (after E closed rs))
+      go : (a : Result (Unit {0}) Refusal) → E.grant p ≡ a → Shaped E (begun E a p) rs → granted_by E a p (granted_open E rs) ≡ Some o → (Shaped E closed rs → granted_open E rs ≡ Some o → Holds (Ran rs o) (after E closed rs))
           → Holds (RanFrom o (ledger_start (E.rows o) (E.columns o)) (begun E a p) rs) (after E (begun E a p) rs)
       go (Err r) e t g later = later t g
       go (Ok u) e t g later =
@@ -104,7 +104,7 @@ module _ {O X Q A : Type 0} {E : End O X Q A} {W : ℕ} {Stands : O → Ledger �
   ran (sealing ∷ rs) s o g = absurd s.0
   ran (asking q ∷ rs) s o g = absurd s.0
 
-  pub ran_at : (rs : List (Request O Q)) → Shaped E closed rs → (o : O) → granted E rs ≡ some o → (x : X) → Open (after E closed rs) x → Ran rs o x
+  pub ran_at : (rs : List (Request O Q)) → Shaped E closed rs → (o : O) → granted_open E rs ≡ Some o → (x : X) → Open (after E closed rs) x → Ran rs o x
   ran_at rs s o g x (inl e) = subst (Holds (Ran rs o)) e (ran rs s o g)
   ran_at rs s o g x (inr e) = subst (Holds (Ran rs o)) e (ran rs s o g)
 

@@ -1,11 +1,11 @@
 -- Every list of requests of the form has exactly one run. Assumes nothing.
 use Rattle.std.proofs.Common.{◌≡◌, List, [], ◌∷◌, ◌++◌, map, Ok, Err, Result, sym, refl, ap, ◌∙◌, subst, ap₂, inl, inr}
 use Rattle.std.proofs.lemmas.List.{append-nil}
-use mathlib.Core.Option.{Option, some}
-use Rattle.polynomial.specs.Lists.{Each}
-use Rattle.board.specs.declared.game.Move.{Move}
-use Rattle.board.specs.declared.refusal.Refusal.{Refusal}
-use Rattle.promise.specs.Runs.{End, Request, opening, noting, sealing, asking, State, closed, listening, sealed, moves, begun, next, Possible, Shaped, after, granted, granted_by, note_answers, replies}
+use mathlib.Core.Option.{Option, Some}
+use Rattle.std.specs.List.{AllByRecursion}
+use Rattle.board.specs.declared.moves.Move.{Move}
+use Rattle.refusal.specs.declared.refusal.Refusal.{Refusal}
+use Rattle.promise.specs.Runs.{End, Request, opening, noting, sealing, asking, State, closed, listening, sealed, moves, begun, next, Possible, Shaped, after, granted_open, granted_by, note_answers, replies}
 use Rattle.promise.specs.Ledgers.{Open}
 use Rattle.promise.specs.Shapes.{whole, Response, to_open, to_note, to_seal, to_ask, answers_in, replies_in, Refused, Form, unopened, unsealed, complete, Step, refused, opened, noted, shut, asked, Run, stop, goes, OneRun, Completed, RunsOf}
 use Rattle.promise.proofs.Runs.{Holds}
@@ -25,7 +25,7 @@ module _ {O X Q A : Type 0} (E : End O X Q A) where
   shaped_sealed x (m ∷ ms) qs = (tt, shaped_sealed (E.noted x m) ms qs)
 
   -- after refused opens
-  shaped_opened : (os : List O) → Each (Refused E) os → (rs : List (Request O Q)) → Shaped E closed rs → Shaped E closed (map opening os ++ rs)
+  shaped_opened : (os : List O) → AllByRecursion (Refused E) os → (rs : List (Request O Q)) → Shaped E closed rs → Shaped E closed (map opening os ++ rs)
   shaped_opened [] h rs s = s
   shaped_opened (o ∷ os) h rs s = (tt, subst (λ t. Shaped E t (map opening os ++ rs)) (sym (ap (λ a. begun E a o) h.0.1)) (shaped_opened os h.1 rs s))
 
@@ -205,12 +205,12 @@ module _ {O X Q A : Type 0} (E : End O X Q A) where
   noted_tail x [] qs = let t = asked_tail x qs in record { told = t.told; end = t.end; ends = t.ends }
   noted_tail x (m ∷ ms) qs = let t = noted_tail (E.noted x m) ms qs in record { told = ap (◌∷◌ m) t.told; end = t.end; ends = t.ends }
 
-  completed : (os : List O) → Each (Refused E) os → (o : O) → E.grant o ≡ Ok tt → (ms : List Move) (qs : List Q) → Completed E os o ms qs
+  completed : (os : List O) → AllByRecursion (Refused E) os → (o : O) → E.grant o ≡ Ok tt → (ms : List Move) (qs : List Q) → Completed E os o ms qs
   completed [] h o e ms qs =
       let t = noted_tail (E.begin o) ms qs in
       let later = map noting ms ++ (sealing ∷ map asking qs) in
       record {
-        grants = ap (λ a. granted_by E a o (granted E later)) e;
+        grants = ap (λ a. granted_by E a o (granted_open E later)) e;
         told = t.told;
         end = t.end;
         ends = ap (λ a. after E (begun E a o) later) e ∙ t.ends;
@@ -218,7 +218,7 @@ module _ {O X Q A : Type 0} (E : End O X Q A) where
   completed (p ∷ os) h o e ms qs =
       let t = completed os h.1 o e ms qs in
       record {
-        grants = ap (λ a. granted_by E a p (granted E (whole os o ms qs))) h.0.1 ∙ t.grants;
+        grants = ap (λ a. granted_by E a p (granted_open E (whole os o ms qs))) h.0.1 ∙ t.grants;
         told = t.told;
         end = t.end;
         ends = ap (λ a. after E (begun E a p) (whole os o ms qs)) h.0.1 ∙ t.ends;
@@ -230,17 +230,17 @@ module _ {O X Q A : Type 0} (E : End O X Q A) where
   beginnings s (r ∷ rs) later h = (h.0, beginnings (next E s r) rs later h.1)
 
   abbrev SomeGrant : List (Request O Q) → X → Type 0
-  SomeGrant rs x = (o : O) × (granted E rs ≡ some o)
+  SomeGrant rs x = (o : O) × (granted_open E rs ≡ Some o)
 
   open_granted : (rs : List (Request O Q)) → Shaped E closed rs → Holds (SomeGrant rs) (after E closed rs)
   open_granted [] s = tt
   open_granted (opening p ∷ rs) s = go (E.grant p) s.1 (open_granted rs)
     where
-      go : (a : Result (Unit {0}) Refusal) → Shaped E (begun E a p) rs → (Shaped E closed rs → Holds (SomeGrant rs) (after E closed rs)) → Holds (λ x. (o : O) × (granted_by E a p (granted E rs) ≡ some o)) (after E (begun E a p) rs)
+      go : (a : Result (Unit {0}) Refusal) → Shaped E (begun E a p) rs → (Shaped E closed rs → Holds (SomeGrant rs) (after E closed rs)) → Holds (λ x. (o : O) × (granted_by E a p (granted_open E rs) ≡ Some o)) (after E (begun E a p) rs)
       go (Err r) t later = later t
       go (Ok u) t later = always (after E (listening (E.begin p)) rs)
         where
-          always : (s : State X) → Holds (λ x. (o : O) × (◌≡◌ {A = Option O} (some p) (some o))) s
+          always : (s : State X) → Holds (λ x. (o : O) × (◌≡◌ {A = Option O} (Some p) (Some o))) s
           always closed = tt
           always (listening x) = (p, refl)
           always (sealed x) = (p, refl)
@@ -248,7 +248,7 @@ module _ {O X Q A : Type 0} (E : End O X Q A) where
   open_granted (sealing ∷ rs) s = absurd s.0
   open_granted (asking q ∷ rs) s = absurd s.0
 
-  openings : (rs : List (Request O Q)) → Shaped E closed rs → (x : X) → Open (after E closed rs) x → (o : O) × (granted E rs ≡ some o)
+  openings : (rs : List (Request O Q)) → Shaped E closed rs → (x : X) → Open (after E closed rs) x → (o : O) × (granted_open E rs ≡ Some o)
   openings rs s x (inl e) = subst (Holds (SomeGrant rs)) e (open_granted rs s)
   openings rs s x (inr e) = subst (Holds (SomeGrant rs)) e (open_granted rs s)
 

@@ -3,8 +3,8 @@ use Rattle.std.proofs.Common.{◌≡◌, ℕ, ◌<◌, ◌≤◌, true, false, �
 use borrow.Author.Tests.{clash}
 use Rattle.std.proofs.lemmas.Int.{ints}
 use Rattle.field.specs.Field.{FieldModel}
-use Rattle.board.specs.declared.game.Move.{Move}
-use Rattle.board.specs.declared.refusal.Refusal.{Refusal}
+use Rattle.board.specs.declared.moves.Move.{Move}
+use Rattle.refusal.specs.declared.refusal.Refusal.{Refusal}
 use Rattle.question.specs.declared.outcome.Fit.{Fit}
 use Rattle.question.specs.declared.outcome.Fit.TheVariants as fit
 use Rattle.protocol.specs.Asking.{is_fit, read_sheet}

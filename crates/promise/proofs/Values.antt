@@ -7,13 +7,14 @@ use Rattle.field.proofs.Consequences.{image-sub}
 use Rattle.field.proofs.Sameness.{decided}
 use Rattle.field.proofs.Solver.{sides, solve}
 use Rattle.board.proofs.Grids.{allowed_grid}
-use Rattle.polynomial.specs.Lists.{Each, Distinct}
+use Rattle.polynomial.specs.Lists.{Distinct}
+use Rattle.std.specs.List.{AllByRecursion}
 use Rattle.polynomial.specs.Sums.{list_sum}
-use Rattle.polynomial.specs.Polynomials.{sub, eval, scaled, sum}
+use Rattle.polynomial.specs.Polynomials.{sub, eval, scaled, poly_add}
 use Rattle.polynomial.specs.Interpolation.{node, interpolant}
 use Rattle.polynomial.specs.Columns.{columns}
 use Rattle.polynomial.proofs.Columns.{columns_node, column_polynomials, eval-columns, length-columns, short_columns}
-use Rattle.polynomial.proofs.Evals.{eval-sum, eval_scaled, length-sum, length_scaled}
+use Rattle.polynomial.proofs.Evals.{eval-poly_add, eval_scaled, length-poly_add, length_scaled}
 use Rattle.polynomial.proofs.Lagrange.{interpolation}
 use Rattle.polynomial.proofs.Roots.{root_bound, sub-zero}
 use Rattle.polynomial.proofs.Sums.{length-listed, get_or-listed, take-listed, sum_cong, list_sum-listed}
@@ -125,7 +126,7 @@ module _ {K : Type 0} {F : FieldModel K} (L : LawfulField F) where
           d (same_claim c (q.tally h v fs) a b (Q.tally_least h v fit fs w) (Q.tally_most h v fit fs w)
           (sym (claim_image_lem c (claim_range c a b)) ∙ sym s ∙ ap (λ ws. list_sum F (take h ws)) z ∙ honest_sum w))
 
-      pub unlike_few : (vs : List K) → length vs ≡ suc (q.degree h) → vs ≢ honest F h v q fs → (rs : List K) → Distinct rs → Each (λ r. Agree F q h v vs r (columns F h v fs r)) rs → length rs ≤ q.degree h
+      pub unlike_few : (vs : List K) → length vs ≡ suc (q.degree h) → vs ≢ honest F h v q fs → (rs : List K) → Distinct rs → AllByRecursion (λ r. Agree F q h v vs r (columns F h v fs r)) rs → length rs ≤ q.degree h
       unlike_few vs l n rs d agree =
           root_bound L (q.degree h) difference short (node F z.place, nonzero) rs d (each_map _ _ rs (λ r e. eval_difference r ∙ ap (λ w. sub F w (eval F rule_poly r)) (e ∙ sym (eval_rule r)) ∙ L.ring.add-neg _) agree)
         where
@@ -133,16 +134,16 @@ module _ {K : Type 0} {F : FieldModel K} (L : LawfulField F) where
           z = differ vs (honest F h v q fs) (l ∙ sym length_honest) n
 
           difference : List K
-          difference = sum F (interpolant F vs) (scaled F (F.neg F.one) rule_poly)
+          difference = poly_add F (interpolant F vs) (scaled F (F.neg F.one) rule_poly)
 
           eval_difference : (X : K) → eval F difference X ≡ sub F (eval F (interpolant F vs) X) (eval F rule_poly X)
           eval_difference X =
-              eval-sum L (interpolant F vs) (scaled F (F.neg F.one) rule_poly) X ∙ ap (F.add (eval F (interpolant F vs) X)) (eval_scaled L (F.neg F.one) rule_poly X)
+              eval-poly_add L (interpolant F vs) (scaled F (F.neg F.one) rule_poly) X ∙ ap (F.add (eval F (interpolant F vs) X)) (eval_scaled L (F.neg F.one) rule_poly X)
               ∙ solve L.ring (eval F (interpolant F vs) X ∷ eval F rule_poly X ∷ []) (search sides depth 30) refl
 
           short : length difference ≤ suc (q.degree h)
           short =
-              length-sum L (interpolant F vs) (scaled F (F.neg F.one) rule_poly) (suc (q.degree h))
+              length-poly_add L (interpolant F vs) (scaled F (F.neg F.one) rule_poly) (suc (q.degree h))
               (omega (arith, (interpolation L vs (omega (arith, degree_small))).fits)) (omega (arith, length_scaled L (F.neg F.one) rule_poly, rule_short))
 
           nonzero : eval F difference (node F z.place) ≢ F.zero

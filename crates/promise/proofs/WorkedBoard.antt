@@ -5,7 +5,8 @@ use Rattle.prime.specs.declared.residue.Residue.{Residue}
 use Rattle.prime.specs.Fields.{lawful_65537}
 use Rattle.board.specs.Grids.{grid_allowed}
 use Rattle.field.proofs.Sameness.{decided}
-use Rattle.polynomial.specs.Lists.{Each, Distinct}
+use Rattle.polynomial.specs.Lists.{Distinct}
+use Rattle.std.specs.List.{AllByRecursion}
 use Rattle.polynomial.specs.Interpolation.{node}
 use Rattle.polynomial.proofs.Nodes.{nodes_differ}
 use Rattle.question.specs.Question.{LawfulQuestion}
@@ -129,7 +130,7 @@ degrees : false_degrees residues 2 8 told mixture ≡ 4
 unfolding pass
 degrees = refl
 
-mixed : (rs : List (Residue 65537)) → Distinct rs → Each (Fooled residues 2 8 told mixture) rs → length rs ≤ 4
+mixed : (rs : List (Residue 65537)) → Distinct rs → AllByRecursion (Fooled residues 2 8 told mixture) rs → length rs ≤ 4
 mixed rs different fooled = let most = (promise lawful_65537).few_points 2 8 told mixture (squares, (range, tt)) rs different fooled in omega (arith, most, degrees)
 
 honest : HonestAnswer residues 2 8 told entry13.question tray paper (host_gives residues 2 8 told host entry13.question tray paper)

@@ -1,9 +1,9 @@
 -- That the promise says what it should: its runs exist and are unique, its premises can be met, and its bound is reached. Assumes nothing.
 use Rattle.std.specs.Prelude.{◌≡◌, ℕ, true, List, []}
 use Rattle.field.specs.Field.{FieldModel}
-use Rattle.board.specs.declared.game.Move.{Move}
+use Rattle.board.specs.declared.moves.Move.{Move}
 use Rattle.board.specs.Grids.{grid_allowed}
-use Rattle.polynomial.specs.Lists.{Each}
+use Rattle.std.specs.List.{AllByRecursion}
 use Rattle.question.specs.Question.{LawfulQuestion}
 use Rattle.promise.specs.Ends.{VerifierOpening, verifier_end, host_end}
 use Rattle.promise.specs.Shapes.{RunsOf}
@@ -35,4 +35,4 @@ module _ {K : Type 0} (F : FieldModel K) where
 
   -- on one row no false claim is accepted anywhere
   abbrev pub NoneOnOneRow : Type 0
-  NoneOnOneRow = (v : ℕ) (ms : List Move) (es : List (Entry K)) → Each (λ e. LawfulQuestion F e.question) es → (rs : List K) → Each (Fooled F 1 v ms es) rs → rs ≡ []
+  NoneOnOneRow = (v : ℕ) (ms : List Move) (es : List (Entry K)) → AllByRecursion (λ e. LawfulQuestion F e.question) es → (rs : List K) → AllByRecursion (Fooled F 1 v ms es) rs → rs ≡ []

@@ -1,8 +1,8 @@
 -- True counts and false claims. Assumes nothing.
 use Rattle.std.specs.Prelude.{◌≡◌, ℕ, ◌+◌, Bool, false, cond, ◌&&◌, ◌≢◌, List, [], ◌∷◌, ℤ, ◌-ℤ◌, Ok, Err, Result, nat_lt, unsigned_abs}
 use Rattle.field.specs.Field.{FieldModel}
-use Rattle.board.specs.declared.game.Move.{Move}
-use Rattle.board.specs.declared.refusal.Refusal.{Refusal}
+use Rattle.board.specs.declared.moves.Move.{Move}
+use Rattle.refusal.specs.declared.refusal.Refusal.{Refusal}
 use Rattle.board.specs.Ledger.{ledger}
 use Rattle.question.specs.declared.outcome.Fit.TheVariants as fit
 use Rattle.question.specs.Question.{QuestionModel}

@@ -1,7 +1,8 @@
 -- Values against counts: what honest values pass, and at how few points other values do. There is no run in it. Assumes nothing.
 use Rattle.std.specs.Prelude.{◌≡◌, ℕ, suc, ◌≤◌, ◌≢◌, List, length, take, ℤ, ◌≤ℤ◌}
 use Rattle.field.specs.Field.{FieldModel}
-use Rattle.polynomial.specs.Lists.{Each, Distinct}
+use Rattle.polynomial.specs.Lists.{Distinct}
+use Rattle.std.specs.List.{AllByRecursion}
 use Rattle.polynomial.specs.Sums.{list_sum}
 use Rattle.polynomial.specs.Polynomials.{eval}
 use Rattle.polynomial.specs.Interpolation.{interpolant}
@@ -26,7 +27,7 @@ module _ {K : Type 0} (F : FieldModel K) (q : QuestionModel K) (h v : ℕ) where
     -- values that add up to a false claim are unlike the honest ones
     pub false_unlike : (c : ℤ) (vs : List K) → q.least ≤ℤ c → c ≤ℤ q.greatest → AddUp vs c → c ≢ q.tally h v fs → vs ≢ honest F h v q fs
     -- values unlike the honest ones pass at no more points than the degree
-    pub unlike_few : (vs : List K) → length vs ≡ suc (q.degree h) → vs ≢ honest F h v q fs → (rs : List K) → Distinct rs → Each (λ r. Agree vs r (columns F h v fs r)) rs → length rs ≤ q.degree h
+    pub unlike_few : (vs : List K) → length vs ≡ suc (q.degree h) → vs ≢ honest F h v q fs → (rs : List K) → Distinct rs → AllByRecursion (λ r. Agree vs r (columns F h v fs r)) rs → length rs ≤ q.degree h
 
 -- this holds of every lawful question on every grid that it fits, and of all counts that come to the limit at most
 abbrev pub ValuesAgainstCounts : {K : Type 0} → FieldModel K → Type 0

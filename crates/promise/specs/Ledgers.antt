@@ -1,9 +1,8 @@
 -- An end that keeps to the ledger. Assumes nothing.
-use Rattle.std.specs.Prelude.{◌≡◌, ℕ, ◌⊎◌, List}
-use Rattle.std.proofs.Math.Option.{some}
+use Rattle.std.specs.Prelude.{◌≡◌, ℕ, ◌⊎◌, List, Some}
 use Rattle.board.specs.Books.{ledger_standing}
 use Rattle.board.specs.Ledger.{ledger, ledger_answers}
-use Rattle.promise.specs.Runs.{End, Request, State, closed, listening, sealed, moves, Shaped, after, granted, note_answers}
+use Rattle.promise.specs.Runs.{End, Request, State, closed, listening, sealed, moves, Shaped, after, granted_open, note_answers}
 
 -- the end is open in this state: it listens or is sealed
 abbrev pub Open : {X : Type 0} → State X → X → Type 0
@@ -16,4 +15,4 @@ pub record KeepsLedger {O X Q A : Type 0} (E : End O X Q A) (W : ℕ) (rs : List
 
 -- this holds of every run; and since every beginning of a run is a run, it holds after every request
 abbrev pub AlwaysLedger : {O X Q A : Type 0} → End O X Q A → ℕ → Type 0
-AlwaysLedger {O} {X} {Q} E W = (rs : List (Request O Q)) → Shaped E closed rs → (o : O) → granted E rs ≡ some o → (x : X) → Open (after E closed rs) x → KeepsLedger E W rs o x
+AlwaysLedger {O} {X} {Q} E W = (rs : List (Request O Q)) → Shaped E closed rs → (o : O) → granted_open E rs ≡ Some o → (x : X) → Open (after E closed rs) x → KeepsLedger E W rs o x

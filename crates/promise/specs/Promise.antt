@@ -1,16 +1,16 @@
 -- What the two ends promise, over every lawful field and all lawful questions. Assumes nothing.
-use Rattle.std.specs.Prelude.{◌≡◌, ℕ, suc, ◌+◌, ◌*◌, ◌≤◌, List, length, take, ℤ, Ok}
-use Rattle.std.proofs.Math.Option.{some}
+use Rattle.std.specs.Prelude.{◌≡◌, ℕ, suc, ◌+◌, ◌*◌, ◌≤◌, List, length, take, ℤ, Ok, Some}
 use Rattle.field.specs.Field.{FieldModel}
-use Rattle.board.specs.declared.game.Move.{Move}
+use Rattle.board.specs.declared.moves.Move.{Move}
 use Rattle.board.specs.Ledger.{ledger}
-use Rattle.polynomial.specs.Lists.{Each, Distinct}
+use Rattle.polynomial.specs.Lists.{Distinct}
+use Rattle.std.specs.List.{AllByRecursion}
 use Rattle.polynomial.specs.Columns.{columns}
 use Rattle.question.specs.declared.outcome.Fit.TheVariants as fit
 use Rattle.question.specs.Question.{QuestionModel, LawfulQuestion}
 use Rattle.host.specs.Notes.{HostState}
 use Rattle.verifier.specs.Notes.{VerifierState}
-use Rattle.promise.specs.Runs.{Request, closed, moves, Shaped, after, granted}
+use Rattle.promise.specs.Runs.{Request, closed, moves, Shaped, after, granted_open}
 use Rattle.promise.specs.Ledgers.{Open, AlwaysLedger}
 use Rattle.promise.specs.Ends.{VerifierOpening, Judging, verifier_end, HostOpening, Answering, host_end}
 use Rattle.promise.specs.Claims.{Entry, true_count, FalseClaim, false_degrees}
@@ -32,26 +32,26 @@ module _ {K : Type 0} (F : FieldModel K) where
   -- the degrees of the questions of the listed sheets with a false claim, added
   abbrev pub FewPoints : Type 0
   FewPoints =
-      (h v : ℕ) (ms : List Move) (es : List (Entry K)) → Each (λ e. LawfulQuestion F e.question) es
-      → (rs : List K) → Distinct rs → Each (Fooled F h v ms es) rs → length rs ≤ false_degrees F h v ms es
+      (h v : ℕ) (ms : List Move) (es : List (Entry K)) → AllByRecursion (λ e. LawfulQuestion F e.question) es
+      → (rs : List K) → Distinct rs → AllByRecursion (Fooled F h v ms es) rs → length rs ≤ false_degrees F h v ms es
 
   -- whenever any other listed sheet is accepted, the claim given is the true count
   abbrev pub OthersTrue : Type 0
   OthersTrue =
-      (h v : ℕ) (ms : List Move) (es : List (Entry K)) → Each (λ e. LawfulQuestion F e.question) es → (r : K) (judges : ListedRun F h v ms es r)
-      → Each (λ g. (c : ℤ) → g.1.answer ≡ Ok c → ¬ FalseClaim F h v ms (entry_of g.0) → c ≡ true_count F h v ms g.0.question) (judgings F h v ms judges.run)
+      (h v : ℕ) (ms : List Move) (es : List (Entry K)) → AllByRecursion (λ e. LawfulQuestion F e.question) es → (r : K) (judges : ListedRun F h v ms es r)
+      → AllByRecursion (λ g. (c : ℤ) → g.1.answer ≡ Ok c → ¬ FalseClaim F h v ms (entry_of g.0) → c ≡ true_count F h v ms g.0.question) (judgings F h v ms judges.run)
 
   -- after every request the box's bank begins with the low-degree extensions of its ledger's counts at its point
   abbrev pub VerifierSums : Type 0
   VerifierSums =
-      (rs : List (Request (VerifierOpening K) (Judging K))) → Shaped (verifier_end F) closed rs → (o : VerifierOpening K) → granted (verifier_end F) rs ≡ some o
+      (rs : List (Request (VerifierOpening K) (Judging K))) → Shaped (verifier_end F) closed rs → (o : VerifierOpening K) → granted_open (verifier_end F) rs ≡ Some o
       → (x : VerifierState K) → Open (after (verifier_end F) closed rs) x
       → take o.columns x.bank ≡ columns F o.rows o.columns (ledger o.rows o.columns F.limit (moves rs)).counts o.point
 
   -- after every request the host's bank begins with its ledger's counts
   abbrev pub HostCounts : Type 0
   HostCounts =
-      (rs : List (Request HostOpening (Answering K))) → Shaped (host_end F) closed rs → (o : HostOpening) → granted (host_end F) rs ≡ some o
+      (rs : List (Request HostOpening (Answering K))) → Shaped (host_end F) closed rs → (o : HostOpening) → granted_open (host_end F) rs ≡ Some o
       → (x : HostState) → Open (after (host_end F) closed rs) x
       → take (o.rows * o.columns) x.bank ≡ (ledger o.rows o.columns F.limit (moves rs)).counts
 

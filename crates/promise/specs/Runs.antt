@@ -1,8 +1,7 @@
 -- Runs of an end: opens until one is granted, then notes, a seal, and what the sealed end is asked. Every beginning of a run is a run. Assumes nothing.
-use Rattle.std.specs.Prelude.{ℕ, List, [], ◌∷◌, ◌++◌, Ok, Err, Result}
-use Rattle.std.proofs.Math.Option.{Option, none, some}
-use Rattle.board.specs.declared.game.Move.{Move}
-use Rattle.board.specs.declared.refusal.Refusal.{Refusal}
+use Rattle.std.specs.Prelude.{ℕ, List, [], ◌∷◌, ◌++◌, Ok, Err, Result, Option, None, Some}
+use Rattle.board.specs.declared.moves.Move.{Move}
+use Rattle.refusal.specs.declared.refusal.Refusal.{Refusal}
 use Rattle.board.specs.Standing.{Standing}
 
 -- an end, by its calls: O is what an open takes, X an end with its bank, Q what a sealed end is asked, A what it replies
@@ -91,16 +90,16 @@ module _ {O X Q A : Type 0} (E : End O X Q A) where
 
   -- an open is the granted one where it was answered so, else a later one is
   abbrev pub granted_by : Result (Unit {0}) Refusal → O → Option O → Option O
-  granted_by (Ok u) o later = some o
+  granted_by (Ok u) o later = Some o
   granted_by (Err r) o later = later
 
   -- the open that was granted
-  abbrev pub granted : List (Request O Q) → Option O
-  granted [] = none
-  granted (opening o ∷ rs) = granted_by (E.grant o) o (granted rs)
-  granted (noting m ∷ rs) = granted rs
-  granted (sealing ∷ rs) = granted rs
-  granted (asking q ∷ rs) = granted rs
+  abbrev pub granted_open : List (Request O Q) → Option O
+  granted_open [] = None
+  granted_open (opening o ∷ rs) = granted_by (E.grant o) o (granted_open rs)
+  granted_open (noting m ∷ rs) = granted_open rs
+  granted_open (sealing ∷ rs) = granted_open rs
+  granted_open (asking q ∷ rs) = granted_open rs
 
   -- the answer, where the request is a note
   abbrev pub note_answer : State X → Request O Q → List (Result (Unit {0}) Refusal)

@@ -1,10 +1,10 @@
 -- Runs that end with a sealed box or host, the sheets that a box judges in one, and what an honest host gives. Assumes nothing.
-use Rattle.std.specs.Prelude.{◌≡◌, ℕ, suc, ◌+◌, ◌≤◌, List, ◌++◌, length, take, drop, ℤ, Ok}
-use Rattle.std.proofs.Math.Option.{some}
+use Rattle.std.specs.Prelude.{◌≡◌, ℕ, suc, ◌+◌, ◌≤◌, List, ◌++◌, length, take, drop, ℤ, Ok, Some}
 use Rattle.field.specs.Field.{FieldModel}
-use Rattle.board.specs.declared.game.Move.{Move}
+use Rattle.board.specs.declared.moves.Move.{Move}
 use Rattle.board.specs.Ledger.{ledger}
-use Rattle.polynomial.specs.Lists.{Each, Any}
+use Rattle.polynomial.specs.Lists.{AnyByRecursion}
+use Rattle.std.specs.List.{AllByRecursion}
 use Rattle.polynomial.specs.Interpolation.{node}
 use Rattle.polynomial.specs.Columns.{columns}
 use Rattle.question.specs.Question.{QuestionModel}
@@ -13,7 +13,7 @@ use Rattle.host.specs.Answering.{Answered}
 use Rattle.host.specs.Notes.{HostState}
 use Rattle.verifier.specs.Judging.{Judgement}
 use Rattle.verifier.specs.Notes.{VerifierState}
-use Rattle.promise.specs.Runs.{Request, closed, sealed, moves, Shaped, after, granted, replies}
+use Rattle.promise.specs.Runs.{Request, closed, sealed, moves, Shaped, after, granted_open, replies}
 use Rattle.promise.specs.Ends.{VerifierOpening, Judging, verifier_end, HostOpening, Answering, host_end}
 use Rattle.promise.specs.Claims.{Entry, true_count, FalseClaim}
 
@@ -27,7 +27,7 @@ module _ {K : Type 0} (F : FieldModel K) (h v : ℕ) (ms : List Move) where
     pub requests : List (Request (VerifierOpening K) (Judging K))
     pub shaped : Shaped (verifier_end F) closed requests
     pub opened : VerifierOpening K
-    pub grants : granted (verifier_end F) requests ≡ some opened
+    pub grants : granted_open (verifier_end F) requests ≡ Some opened
     pub rows : opened.rows ≡ h
     pub columns : opened.columns ≡ v
     pub point : opened.point ≡ r
@@ -46,19 +46,19 @@ module _ {K : Type 0} (F : FieldModel K) (h v : ℕ) (ms : List Move) where
   -- a run that judges listed sheets alone: any of them, with any trays, in any order, as often as it likes
   pub record ListedRun (es : List (Entry K)) (r : K) : Type 0 where
     pub run : SealedVerifier r
-    pub listed : Each (λ g. Any (λ e. e ≡ entry_of g.0) es) (judgings run)
+    pub listed : AllByRecursion (λ g. AnyByRecursion (λ e. e ≡ entry_of g.0) es) (judgings run)
 
   -- a point at which some such run accepts a listed sheet with a false claim
   pub record Fooled (es : List (Entry K)) (r : K) : Type 0 where
     pub judges : ListedRun es r
-    pub accepts : Any (λ g. (c : ℤ) × (g.1.answer ≡ Ok c) × FalseClaim F h v ms (entry_of g.0)) (judgings judges.run)
+    pub accepts : AnyByRecursion (λ g. (c : ℤ) × (g.1.answer ≡ Ok c) × FalseClaim F h v ms (entry_of g.0)) (judgings judges.run)
 
   -- a run of a host on h rows and v columns, told the moves ms, and sealed at its end
   pub record SealedHost : Type 0 where
     pub requests : List (Request HostOpening (Answering K))
     pub shaped : Shaped (host_end F) closed requests
     pub opened : HostOpening
-    pub grants : granted (host_end F) requests ≡ some opened
+    pub grants : granted_open (host_end F) requests ≡ Some opened
     pub rows : opened.rows ≡ h
     pub columns : opened.columns ≡ v
     pub told : moves requests ≡ ms

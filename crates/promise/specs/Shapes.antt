@@ -1,10 +1,9 @@
 -- Which lists of requests have a run, and that each of them has exactly one. Assumes nothing.
-use Rattle.std.specs.Prelude.{◌≡◌, List, [], ◌∷◌, ◌++◌, map, Ok, Err, Result}
-use Rattle.std.proofs.Math.Option.{some}
-use Rattle.polynomial.specs.Lists.{Each}
-use Rattle.board.specs.declared.game.Move.{Move}
-use Rattle.board.specs.declared.refusal.Refusal.{Refusal}
-use Rattle.promise.specs.Runs.{End, Request, opening, noting, sealing, asking, State, closed, listening, sealed, moves, Shaped, after, granted, note_answers, replies}
+use Rattle.std.specs.Prelude.{◌≡◌, List, [], ◌∷◌, ◌++◌, map, Ok, Err, Result, Some}
+use Rattle.std.specs.List.{AllByRecursion}
+use Rattle.board.specs.declared.moves.Move.{Move}
+use Rattle.refusal.specs.declared.refusal.Refusal.{Refusal}
+use Rattle.promise.specs.Runs.{End, Request, opening, noting, sealing, asking, State, closed, listening, sealed, moves, Shaped, after, granted_open, note_answers, replies}
 use Rattle.promise.specs.Ledgers.{Open}
 
 -- opens, a granted one, notes, a seal, and what the sealed end is asked
@@ -41,9 +40,9 @@ module _ {O X Q A : Type 0} (E : End O X Q A) where
 
   -- refused opens; or these, a granted one and notes; or these, a seal, and what the sealed end is asked
   pub data Form : List (Request O Q) → Type 0 where
-    unopened : (os : List O) → Each Refused os → Form (map opening os)
-    unsealed : (os : List O) → Each Refused os → (o : O) → E.grant o ≡ Ok tt → (ms : List Move) → Form (map opening os ++ (opening o ∷ map noting ms))
-    complete : (os : List O) → Each Refused os → (o : O) → E.grant o ≡ Ok tt → (ms : List Move) (qs : List Q) → Form (whole os o ms qs)
+    unopened : (os : List O) → AllByRecursion Refused os → Form (map opening os)
+    unsealed : (os : List O) → AllByRecursion Refused os → (o : O) → E.grant o ≡ Ok tt → (ms : List Move) → Form (map opening os ++ (opening o ∷ map noting ms))
+    complete : (os : List O) → AllByRecursion Refused os → (o : O) → E.grant o ≡ Ok tt → (ms : List Move) (qs : List Q) → Form (whole os o ms qs)
 
   -- one request with its response takes the end from a state to a state
   pub data Step : State X → Request O Q → Response Q A → State X → Type 0 where
@@ -68,7 +67,7 @@ module _ {O X Q A : Type 0} (E : End O X Q A) where
 
   -- a complete list ends with a sealed end; its granted open and its moves are those in the list
   pub record Completed (os : List O) (o : O) (ms : List Move) (qs : List Q) : Type 0 where
-    pub grants : granted E (whole os o ms qs) ≡ some o
+    pub grants : granted_open E (whole os o ms qs) ≡ Some o
     pub told : moves (whole os o ms qs) ≡ ms
     pub end : X
     pub ends : after E closed (whole os o ms qs) ≡ sealed end
@@ -79,6 +78,6 @@ module _ {O X Q A : Type 0} (E : End O X Q A) where
     pub formed : (rs : List (Request O Q)) → Shaped E closed rs → Form rs
     pub one_run : (rs : List (Request O Q)) → Shaped E closed rs → OneRun rs
     pub shaped : (rs : List (Request O Q)) (given : List (Response Q A)) (s : State X) → Run closed rs given s → Shaped E closed rs
-    pub completed : (os : List O) → Each Refused os → (o : O) → E.grant o ≡ Ok tt → (ms : List Move) (qs : List Q) → Completed os o ms qs
-    pub openings : (rs : List (Request O Q)) → Shaped E closed rs → (x : X) → Open (after E closed rs) x → (o : O) × (granted E rs ≡ some o)
+    pub completed : (os : List O) → AllByRecursion Refused os → (o : O) → E.grant o ≡ Ok tt → (ms : List Move) (qs : List Q) → Completed os o ms qs
+    pub openings : (rs : List (Request O Q)) → Shaped E closed rs → (x : X) → Open (after E closed rs) x → (o : O) × (granted_open E rs ≡ Some o)
     pub beginnings : (s : State X) (rs later : List (Request O Q)) → Shaped E s (rs ++ later) → Shaped E s rs

@@ -5,8 +5,9 @@ use Rattle.std.proofs.Common.{lit<}
 use Rattle.field.specs.Field.{FieldModel}
 use Rattle.prime.specs.declared.residue.Residue.{Residue}
 use Rattle.prime.specs.Residues.{prime_field}
-use Rattle.board.specs.declared.game.Move.{Move}
-use Rattle.polynomial.specs.Lists.{Each, Distinct}
+use Rattle.board.specs.declared.moves.Move.{Move}
+use Rattle.polynomial.specs.Lists.{Distinct}
+use Rattle.std.specs.List.{AllByRecursion}
 use Rattle.polynomial.specs.Interpolation.{node}
 use Rattle.question.specs.Question.{LawfulQuestion}
 use Rattle.question.specs.Cells.{range_question}
@@ -63,7 +64,7 @@ pub record BoundReached : Type 0 where
   pub lawful : LawfulQuestion residues entry13.question
   pub false_claim : FalseClaim residues 2 8 told entry13
   pub different : Distinct points
-  pub fooled : Each (Fooled residues 2 8 told (entry13 ∷ [])) points
+  pub fooled : AllByRecursion (Fooled residues 2 8 told (entry13 ∷ [])) points
   pub bound : false_degrees residues 2 8 told (entry13 ∷ []) ≡ length points
 
 -- the points 0, 2, 1 and −1
@@ -86,9 +87,9 @@ pub record WorkedPromise : Type 0 where
   -- two false sheets together are accepted at no more points than the sum of their degrees, which is 4, and there are four such points
   pub second_false : FalseClaim residues 2 8 told entry0
   pub degrees : false_degrees residues 2 8 told mixture ≡ 4
-  pub mixed : (rs : List (Residue 65537)) → Distinct rs → Each (Fooled residues 2 8 told mixture) rs → length rs ≤ 4
+  pub mixed : (rs : List (Residue 65537)) → Distinct rs → AllByRecursion (Fooled residues 2 8 told mixture) rs → length rs ≤ 4
   pub different : Distinct four_points
-  pub fooled : Each (Fooled residues 2 8 told mixture) four_points
+  pub fooled : AllByRecursion (Fooled residues 2 8 told mixture) four_points
   -- there is a host and, at each point, a box that were told the moves; the host answers 14 for the squares, and every such box accepts its sheet
   pub host : SealedHost residues 2 8 told
   pub box : (r : Residue 65537) → SealedVerifier residues 2 8 told r

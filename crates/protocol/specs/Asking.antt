@@ -1,7 +1,7 @@
 -- What both ends agree on when a question is asked of a grid: whether it suits, what its sheet has to state, and the honest values. Assumes nothing.
 use Rattle.std.specs.Prelude.{ℕ, suc, Bool, true, false, cond, ◌&&◌, List, ℤ, Ok, Err, Result, nat_le}
-use Rattle.board.specs.declared.refusal.Refusal.{Refusal}
-use Rattle.board.specs.declared.refusal.Refusal.TheVariants.{QuestionUnfit}
+use Rattle.refusal.specs.declared.refusal.Refusal.{Refusal}
+use Rattle.refusal.specs.declared.refusal.Refusal.TheVariants.{QuestionUnfit}
 use Rattle.field.specs.Field.{FieldModel, modulo}
 use Rattle.polynomial.specs.Lists.{listed}
 use Rattle.polynomial.specs.Interpolation.{node}

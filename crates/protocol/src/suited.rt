@@ -1,11 +1,12 @@
 // A question that suits a grid.
 ghost use Rattle.std.specs.Prelude.{◌≡◌, suc, ◌≤◌, IfOk};
-ghost use Rattle.board.specs.Books.{granted};
+ghost use Rattle.board.specs.Answers.{granted};
 ghost use Rattle.question.specs.declared.outcome.Fit.{Fit};
 ghost use Rattle.protocol.specs.Asking.{suit_answer, terms_of};
 
 use crate::terms::terms_of;
-use board::{Grid, Refusal};
+use board::Grid;
+use refusal::Refusal;
 use field::Field;
 use question::{Fit, Question};
 use sheet::Terms;
@@ -33,7 +34,7 @@ impl<'a, F: Field, Q: Question<F>> Suited<'a, F, Q> {
     {
         let degree = question.degree(grid);
         match question.fit(grid) {
-            Fit::Fits if grid.rows() <= degree.saturating_add(1) && degree <= 252 => Ok(Suited {
+            Fit::Fits if grid.rows <= degree.saturating_add(1) && degree <= 252 => Ok(Suited {
                 question,
                 grid,
                 degree,

@@ -12,8 +12,8 @@ pub fn terms_of<F: Field, Q: Question<F>>(question: &Q, grid: Grid) -> Terms
     ensures { result ≡ terms_of (Q.Question.meaning question.now) grid.rows grid.columns }
 {
     Terms {
-        rows: grid.rows(),
-        columns: grid.columns(),
+        rows: grid.rows,
+        columns: grid.columns,
         tag: question.tag(),
         least: question.least(),
         greatest: question.greatest(),

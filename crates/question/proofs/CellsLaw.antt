@@ -7,12 +7,13 @@ use Rattle.field.proofs.Solver.{zero-mul, one-mul}
 use Rattle.field.proofs.Consequences.{limit_small}
 use Rattle.board.specs.Ledger.{abs_sum}
 use Rattle.board.proofs.Ledgers.{abs-add}
-use Rattle.polynomial.specs.Lists.{Each, Distinct, listed}
+use Rattle.polynomial.specs.Lists.{Distinct, listed}
+use Rattle.std.specs.List.{AllByRecursion}
 use Rattle.polynomial.specs.Sums.{sum_from}
-use Rattle.polynomial.specs.Polynomials.{eval, sum, product}
+use Rattle.polynomial.specs.Polynomials.{eval, poly_add, poly_mul}
 use Rattle.polynomial.specs.Interpolation.{node, chi, basis}
 use Rattle.polynomial.specs.Columns.{count_at, row}
-use Rattle.polynomial.proofs.Evals.{eval-sum, eval-product, length-sum, length-product}
+use Rattle.polynomial.proofs.Evals.{eval-poly_add, eval-poly_mul, length-poly_add, length-poly_mul}
 use Rattle.polynomial.proofs.Lagrange.{lagrange_basis, eval-basis, chi_here, chi_elsewhere}
 use Rattle.polynomial.proofs.Sums.{get_or-listed, sum_single, sum_zeros, sum-add}
 use Rattle.question.specs.declared.outcome.Fit.{Fit}
@@ -39,7 +40,7 @@ without [] i = omega arith
 without (f ∷ fs) zero = omega arith
 without (f ∷ fs) (suc i) = omega (arith, without fs i)
 
-others : (is : List ℕ) (fs : List ℤ) (i : ℕ) → Each (λ j. i ≢ j) is → cells_abs is (set fs i (pos 0)) ≡ cells_abs is fs
+others : (is : List ℕ) (fs : List ℤ) (i : ℕ) → AllByRecursion (λ j. i ≢ j) is → cells_abs is (set fs i (pos 0)) ≡ cells_abs is fs
 others [] fs i d = refl
 others (j ∷ is) fs i d = ap₂ (λ n m. nat_abs n + m) (get_or-set_other fs i j (pos 0) (pos 0) (λ e. d.0 (sym e))) (others is fs i d.1)
 
@@ -48,7 +49,7 @@ cells_abs_lem [] fs d = omega arith
 cells_abs_lem (i ∷ is) fs d = omega (arith, without fs i, others is fs i d.0, cells_abs_lem is (set fs i (pos 0)) d.1)
 
 -- ---- ranges of cells
-each_above : (j a n : ℕ) → j < a → Each (λ i. j ≢ i) (listed a n (λ i. i))
+each_above : (j a n : ℕ) → j < a → AllByRecursion (λ i. j ≢ i) (listed a n (λ i. i))
 each_above j a zero b = tt
 each_above j a (suc n) b = (omega arith, each_above j (suc a) n (omega arith))
 
@@ -56,7 +57,7 @@ distinct_range : (a n : ℕ) → Distinct (listed a n (λ i. i))
 distinct_range a zero = tt
 distinct_range a (suc n) = (each_above a (suc a) n (omega arith), distinct_range (suc a) n)
 
-range_below : (a n m : ℕ) → a + n ≤ m → Each (λ i. i < m) (listed a n (λ i. i))
+range_below : (a n m : ℕ) → a + n ≤ m → AllByRecursion (λ i. i < m) (listed a n (λ i. i))
 range_below a zero m b = tt
 range_below a (suc n) m b = (omega arith, range_below (suc a) n m (omega arith))
 
@@ -65,27 +66,27 @@ module _ {K : Type 0} {F : FieldModel K} (L : LawfulField F) where
     -- ---- the polynomial
     cells_poly : List ℕ → List (List K) → List K
     cells_poly [] ps = []
-    cells_poly (i ∷ is) ps = sum F (product F (basis F h (i / v)) (get_or ps (i % v) [])) (cells_poly is ps)
+    cells_poly (i ∷ is) ps = poly_add F (poly_mul F (basis F h (i / v)) (get_or ps (i % v) [])) (cells_poly is ps)
 
     eval_cells : (is : List ℕ) (ps : List (List K)) (X : K) → eval F (cells_poly is ps) X ≡ cells_rule F h v is X (map (λ p. eval F p X) ps)
     unfolding cells_poly
     eval_cells [] ps X = refl
     eval_cells (i ∷ is) ps X =
-        eval-sum L (product F (basis F h (i / v)) (get_or ps (i % v) [])) (cells_poly is ps) X
-        ∙ ap₂ F.add (eval-product L (basis F h (i / v)) (get_or ps (i % v) []) X ∙ ap₂ F.mul (eval-basis L h (i / v) X) (sym (get_or-map (λ p. eval F p X) ps (i % v) []))) (eval_cells is ps X)
+        eval-poly_add L (poly_mul F (basis F h (i / v)) (get_or ps (i % v) [])) (cells_poly is ps) X
+        ∙ ap₂ F.add (eval-poly_mul L (basis F h (i / v)) (get_or ps (i % v) []) X ∙ ap₂ F.mul (eval-basis L h (i / v) X) (sym (get_or-map (λ p. eval F p X) ps (i % v) []))) (eval_cells is ps X)
 
-    short_at : (ps : List (List K)) (y : ℕ) → Each (λ p. length p ≤ h) ps → length (get_or ps y []) ≤ h
+    short_at : (ps : List (List K)) (y : ℕ) → AllByRecursion (λ p. length p ≤ h) ps → length (get_or ps y []) ≤ h
     short_at [] y e = omega arith
     short_at (p ∷ ps) zero e = e.0
     short_at (p ∷ ps) (suc y) e = short_at ps y e.1
 
-    length_cells : (is : List ℕ) (ps : List (List K)) → Each (λ i. i < h * v) is → Each (λ p. length p ≤ h) ps → length (cells_poly is ps) ≤ suc (2 * (h - 1))
+    length_cells : (is : List ℕ) (ps : List (List K)) → AllByRecursion (λ i. i < h * v) is → AllByRecursion (λ p. length p ≤ h) ps → length (cells_poly is ps) ≤ suc (2 * (h - 1))
     unfolding cells_poly
     length_cells [] ps b e = omega arith
     length_cells (i ∷ is) ps b e =
         let x : i / v < h = row_below h v i (omega arith) b.0 in
-        length-sum L (product F (basis F h (i / v)) (get_or ps (i % v) [])) (cells_poly is ps) (suc (2 * (h - 1)))
-        (omega (arith, length-product L (basis F h (i / v)) (get_or ps (i % v) []) (h - 1) (h - 1) (omega (arith, (lagrange_basis L h (i / v) (omega arith) x).fits)) (omega (arith, short_at ps (i % v) e))))
+        length-poly_add L (poly_mul F (basis F h (i / v)) (get_or ps (i % v) [])) (cells_poly is ps) (suc (2 * (h - 1)))
+        (omega (arith, length-poly_mul L (basis F h (i / v)) (get_or ps (i % v) []) (h - 1) (h - 1) (omega (arith, (lagrange_basis L h (i / v) (omega arith) x).fits)) (omega (arith, short_at ps (i % v) e))))
         (length_cells is ps b.1 e)
 
     -- ---- the rows add up to the image of the tally
@@ -98,7 +99,7 @@ module _ {K : Type 0} {F : FieldModel K} (L : LawfulField F) where
         ∙ ap₂ F.mul (chi_here L h (i / v) (omega arith) (omega arith)) (get_or-listed 0 v (λ y. count_at F v fs y (i / v)) (i % v) F.zero y ∙ ap (λ y. count_at F v fs y (i / v)) z)
         ∙ one-mul L.ring _ ∙ ap (λ n. F.image (get_or fs n (pos 0))) (div-add-mod' i v)
 
-    cells_add_up : (is : List ℕ) (fs : List ℤ) → Each (λ i. i < h * v) is → cells_abs is fs ≤ 2147483647 → sum_from F 0 h (λ x. cells_rule F h v is (node F x) (row F v fs x)) ≡ F.image (cells_tally is fs)
+    cells_add_up : (is : List ℕ) (fs : List ℤ) → AllByRecursion (λ i. i < h * v) is → cells_abs is fs ≤ 2147483647 → sum_from F 0 h (λ x. cells_rule F h v is (node F x) (row F v fs x)) ≡ F.image (cells_tally is fs)
     cells_add_up [] fs b s = sum_zeros L 0 h ∙ sym L.images.of_zero
     cells_add_up (i ∷ is) fs b s =
         sum-add L 0 h (λ x. F.mul (chi F h (i / v) (node F x)) (get_or (row F v fs x) (i % v) F.zero)) (λ x. cells_rule F h v is (node F x) (row F v fs x))
@@ -106,7 +107,7 @@ module _ {K : Type 0} {F : FieldModel K} (L : LawfulField F) where
         ∙ sym (L.images.of_add (get_or fs i (pos 0)) (cells_tally is fs) (omega arith) (omega (arith, tally_abs is fs)) (omega (arith, tally_abs (i ∷ is) fs)))
 
   -- ---- lawful
-  pub cells_lawful : (t : Tag) → SmallTag t → (fits : ℕ → ℕ → Fit) (is : List ℕ) → Distinct is → ((h v : ℕ) → fits h v ≡ fit.Fits → Each (λ i. i < h * v) is) → LawfulQuestion F (cells_question F t fits is)
+  pub cells_lawful : (t : Tag) → SmallTag t → (fits : ℕ → ℕ → Fit) (is : List ℕ) → Distinct is → ((h v : ℕ) → fits h v ≡ fit.Fits → AllByRecursion (λ i. i < h * v) is) → LawfulQuestion F (cells_question F t fits is)
   cells_lawful t small test is d inside = record {
     tag_small = small;
     degree_least = λ h v fits. omega arith;

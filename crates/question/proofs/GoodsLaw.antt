@@ -3,11 +3,12 @@ use Rattle.std.proofs.Common.{◌≡◌, ℕ, zero, suc, ◌+◌, ◌*◌, ◌/�
 use Rattle.field.specs.Field.{FieldModel, LawfulField}
 use Rattle.field.proofs.Consequences.{limit_small}
 use Rattle.board.specs.Ledger.{abs_sum}
-use Rattle.polynomial.specs.Lists.{Each, listed}
+use Rattle.polynomial.specs.Lists.{listed}
+use Rattle.std.specs.List.{AllByRecursion}
 use Rattle.polynomial.specs.Sums.{sum_from}
-use Rattle.polynomial.specs.Polynomials.{eval, sum}
+use Rattle.polynomial.specs.Polynomials.{eval, poly_add}
 use Rattle.polynomial.specs.Columns.{count_at, row}
-use Rattle.polynomial.proofs.Evals.{eval-sum, length-sum}
+use Rattle.polynomial.proofs.Evals.{eval-poly_add, length-poly_add}
 use Rattle.polynomial.proofs.Sums.{sum_cong, all_cells}
 use Rattle.question.specs.Question.{LawfulQuestion}
 use Rattle.question.specs.GoodsSums.{goods_tally, goods_rule, goods_question}
@@ -53,21 +54,21 @@ module _ {K : Type 0} {F : FieldModel K} (L : LawfulField F) where
 
     goods_poly : ℕ → List (List K) → List K
     goods_poly j [] = []
-    goods_poly j (p ∷ ps) = sum F (cond (eqb (j % 8) g) p []) (goods_poly (suc j) ps)
+    goods_poly j (p ∷ ps) = poly_add F (cond (eqb (j % 8) g) p []) (goods_poly (suc j) ps)
 
     eval_goods : (j : ℕ) (ps : List (List K)) (X : K) → eval F (goods_poly j ps) X ≡ goods_rule F g j (map (λ p. eval F p X) ps)
     unfolding goods_poly
     eval_goods j [] X = refl
-    eval_goods j (p ∷ ps) X = eval-sum L (cond (eqb (j % 8) g) p []) (goods_poly (suc j) ps) X ∙ ap₂ F.add (part (eqb (j % 8) g)) (eval_goods (suc j) ps X)
+    eval_goods j (p ∷ ps) X = eval-poly_add L (cond (eqb (j % 8) g) p []) (goods_poly (suc j) ps) X ∙ ap₂ F.add (part (eqb (j % 8) g)) (eval_goods (suc j) ps X)
       where
         part : (b : Bool) → eval F (cond b p []) X ≡ cond b (eval F p X) F.zero
         part true = refl
         part false = refl
 
-    length_goods : (n j : ℕ) (ps : List (List K)) → Each (λ p. length p ≤ n) ps → length (goods_poly j ps) ≤ n
+    length_goods : (n j : ℕ) (ps : List (List K)) → AllByRecursion (λ p. length p ≤ n) ps → length (goods_poly j ps) ≤ n
     unfolding goods_poly
     length_goods n j [] e = omega arith
-    length_goods n j (p ∷ ps) e = length-sum L (cond (eqb (j % 8) g) p []) (goods_poly (suc j) ps) n (part (eqb (j % 8) g)) (length_goods n (suc j) ps e.1)
+    length_goods n j (p ∷ ps) e = length-poly_add L (cond (eqb (j % 8) g) p []) (goods_poly (suc j) ps) n (part (eqb (j % 8) g)) (length_goods n (suc j) ps e.1)
       where
         part : (b : Bool) → length (cond b p []) ≤ n
         part true = e.0

@@ -4,11 +4,12 @@ use Rattle.std.proofs.lemmas.Int.{ints}
 use Rattle.field.specs.Field.{FieldModel, LawfulField}
 use Rattle.field.proofs.Consequences.{limit_small}
 use Rattle.board.specs.Ledger.{abs_sum}
-use Rattle.polynomial.specs.Lists.{Each, listed}
+use Rattle.polynomial.specs.Lists.{listed}
+use Rattle.std.specs.List.{AllByRecursion}
 use Rattle.polynomial.specs.Sums.{sum_from}
-use Rattle.polynomial.specs.Polynomials.{eval, sum, product}
+use Rattle.polynomial.specs.Polynomials.{eval, poly_add, poly_mul}
 use Rattle.polynomial.specs.Columns.{count_at, row}
-use Rattle.polynomial.proofs.Evals.{eval-sum, eval-product, length-sum, length-product}
+use Rattle.polynomial.proofs.Evals.{eval-poly_add, eval-poly_mul, length-poly_add, length-poly_mul}
 use Rattle.polynomial.proofs.Sums.{sum_cong, all_cells}
 use Rattle.question.specs.Question.{LawfulQuestion}
 use Rattle.question.specs.SquareSums.{squares_tally, squares_rule, squares_question}
@@ -47,17 +48,17 @@ module _ {K : Type 0} {F : FieldModel K} (L : LawfulField F) where
 
   squares_poly : List (List K) → List K
   squares_poly [] = []
-  squares_poly (p ∷ ps) = sum F (product F p p) (squares_poly ps)
+  squares_poly (p ∷ ps) = poly_add F (poly_mul F p p) (squares_poly ps)
 
   eval_squares : (ps : List (List K)) (X : K) → eval F (squares_poly ps) X ≡ squares_rule F (map (λ p. eval F p X) ps)
   unfolding squares_poly
   eval_squares [] X = refl
-  eval_squares (p ∷ ps) X = eval-sum L (product F p p) (squares_poly ps) X ∙ ap₂ F.add (eval-product L p p X) (eval_squares ps X)
+  eval_squares (p ∷ ps) X = eval-poly_add L (poly_mul F p p) (squares_poly ps) X ∙ ap₂ F.add (eval-poly_mul L p p X) (eval_squares ps X)
 
-  length_squares : (n : ℕ) (ps : List (List K)) → Each (λ p. length p ≤ suc n) ps → length (squares_poly ps) ≤ suc (2 * n)
+  length_squares : (n : ℕ) (ps : List (List K)) → AllByRecursion (λ p. length p ≤ suc n) ps → length (squares_poly ps) ≤ suc (2 * n)
   unfolding squares_poly
   length_squares n [] e = omega arith
-  length_squares n (p ∷ ps) e = length-sum L (product F p p) (squares_poly ps) (suc (2 * n)) (omega (arith, length-product L p p n n e.0 e.0)) (length_squares n ps e.1)
+  length_squares n (p ∷ ps) e = length-poly_add L (poly_mul F p p) (squares_poly ps) (suc (2 * n)) (omega (arith, length-poly_mul L p p n n e.0 e.0)) (length_squares n ps e.1)
 
   pub squares_lawful : LawfulQuestion F (squares_question F)
   squares_lawful = record {
@@ -67,7 +68,7 @@ module _ {K : Type 0} {F : FieldModel K} (L : LawfulField F) where
     polynomial = λ h v fits ps n e.
         let gr = allowed_grid h v fits.grid in
         let s : suc (h - 1) ≡ h = omega arith in
-        record { poly = squares_poly ps; short = length_squares (h - 1) ps (subst (λ k. Each (λ p. length p ≤ k) ps) (sym s) e); value = eval_squares ps };
+        record { poly = squares_poly ps; short = length_squares (h - 1) ps (subst (λ k. AllByRecursion (λ p. length p ≤ k) ps) (sym s) e); value = eval_squares ps };
     rows_add_up = λ h v fits fs w. squares_add_up h v fs w.size w.light;
     tally_least = λ h v fits fs w. rw (squares_pos fs) (omega (arith, ints));
     tally_most = λ h v fits fs w. rw (squares_pos fs) (omega (arith, ints, squares_limit fs w.light));

@@ -3,7 +3,7 @@ use Rattle.std.specs.Prelude.{◌≡◌, ℕ, suc, ◌-◌, ◌*◌, ◌≤◌, 
 use Rattle.field.specs.Field.{FieldModel}
 use Rattle.board.specs.Grids.{grid_allowed}
 use Rattle.board.specs.Ledger.{abs_sum}
-use Rattle.polynomial.specs.Lists.{Each}
+use Rattle.std.specs.List.{AllByRecursion}
 use Rattle.polynomial.specs.Sums.{sum_from}
 use Rattle.polynomial.specs.Polynomials.{eval}
 use Rattle.polynomial.specs.Interpolation.{node}
@@ -58,7 +58,7 @@ pub record LawfulQuestion {K : Type 0} (F : FieldModel K) (q : QuestionModel K) 
   pub degree_least : (h v : ℕ) → Fits q h v → h - 1 ≤ q.degree h
   pub degree_most : (h v : ℕ) → Fits q h v → q.degree h ≤ 4 * (h - 1)
   -- on v polynomials of degree at most h − 1 the rule is a polynomial of degree at most D
-  pub polynomial : (h v : ℕ) → Fits q h v → (ps : List (List K)) → length ps ≡ v → Each (λ p. length p ≤ h) ps → Follows F q h v ps
+  pub polynomial : (h v : ℕ) → Fits q h v → (ps : List (List K)) → length ps ≡ v → AllByRecursion (λ p. length p ≤ h) ps → Follows F q h v ps
   -- the rule at the rows, on the counts there, adds up to the image of the true count
   pub rows_add_up : (h v : ℕ) → Fits q h v → (fs : List ℤ) → Within F h v fs → sum_from F 0 h (λ x. q.rule h v (node F x) (row F v fs x)) ≡ F.image (q.tally h v fs)
   -- the true count is among the claims

@@ -1,7 +1,8 @@
 -- What is said of the questions' lawfulness. Assumes nothing.
 use Rattle.std.specs.Prelude.{◌≡◌, ℕ, ◌*◌, ◌<◌, ◌≤◌, List}
 use Rattle.field.specs.Field.{FieldModel}
-use Rattle.polynomial.specs.Lists.{Each, Distinct}
+use Rattle.polynomial.specs.Lists.{Distinct}
+use Rattle.std.specs.List.{AllByRecursion}
 use Rattle.question.specs.declared.outcome.Fit.{Fit}
 use Rattle.question.specs.declared.outcome.Fit.TheVariants as fit
 use Rattle.board.specs.declared.tag.Tag.{Tag}
@@ -15,7 +16,7 @@ module _ {K : Type 0} (F : FieldModel K) where
   abbrev pub CellsLawful : Type 0
   CellsLawful =
       (t : Tag) → SmallTag t → (fits : ℕ → ℕ → Fit) (is : List ℕ) → Distinct is
-      → ((h v : ℕ) → fits h v ≡ fit.Fits → Each (λ i. i < h * v) is) → LawfulQuestion F (cells_question F t fits is)
+      → ((h v : ℕ) → fits h v ≡ fit.Fits → AllByRecursion (λ i. i < h * v) is) → LawfulQuestion F (cells_question F t fits is)
 
   -- the count at any cell
   abbrev pub CellLawful : Type 0

@@ -19,7 +19,7 @@ impl<F: Field> Question<F> for Cell {
     }
 
     fn degree(&self, grid: Grid) -> u32 {
-        2 * (grid.rows() - 1)
+        2 * (grid.rows - 1)
     }
 
     // The limits of a count stand in three questions and not in the trait, whose meaning leaves them open.
@@ -47,6 +47,6 @@ impl<F: Field> Question<F> for Cell {
         let cell = u64::from(self.index);
         let x = grid.row_of(cell) as u32;
         let y = grid.column_of(cell) as usize;
-        basis_at(grid.rows(), x, point).product(columns[y])
+        basis_at(grid.rows, x, point).product(columns[y])
     }
 }

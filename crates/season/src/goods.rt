@@ -18,7 +18,7 @@ impl<F: Field> Question<F> for Goods {
     }
 
     fn degree(&self, grid: Grid) -> u32 {
-        grid.rows() - 1
+        grid.rows - 1
     }
 
     // As in `Cell`: the trait cannot answer it.

@@ -33,7 +33,7 @@ fn rows_rule<F: Field>(grid: Grid, first: u64, last: u64, point: F, columns: &[F
     requires wide { length columns.now ≡ grid.columns }
     ensures { result ≡ cells_rule F.Field.model grid.rows grid.columns (cells_between first last) point columns.now }
 {
-    let rows = grid.rows();
+    let rows = grid.rows;
     let x = grid.row_of(first) as u32;
     let y = grid.column_of(first) as usize;
     let last_x = grid.row_of(last) as u32;
@@ -56,7 +56,7 @@ impl<F: Field> Question<F> for Range {
     }
 
     fn degree(&self, grid: Grid) -> u32 {
-        2 * (grid.rows() - 1)
+        2 * (grid.rows - 1)
     }
 
     // As in `Cell`: the trait cannot answer it.

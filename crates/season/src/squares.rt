@@ -25,7 +25,7 @@ impl<F: Field> Question<F> for Squares {
     }
 
     fn degree(&self, grid: Grid) -> u32 {
-        2 * (grid.rows() - 1)
+        2 * (grid.rows - 1)
     }
 
     fn least(&self) -> i64 {

@@ -7,8 +7,8 @@ use Rattle.std.proofs.lemmas.List.{take_all, take_more_set, map_push}
 use Rattle.std.proofs.lemmas.Bool.{cond-true, lt-ltb}
 use Rattle.field.specs.Field.{FieldModel}
 use Rattle.board.specs.Banks.{filled}
-use Rattle.board.specs.declared.refusal.Refusal.{Refusal}
-use Rattle.board.specs.declared.refusal.Refusal.TheVariants.{TrayShort}
+use Rattle.refusal.specs.declared.refusal.Refusal.{Refusal}
+use Rattle.refusal.specs.declared.refusal.Refusal.TheVariants.{TrayShort}
 use Rattle.token.specs.Tokens.{Cursor, cursor_start}
 use Rattle.sheet.specs.declared.terms.Terms.{Terms}
 use Rattle.expect.specs.Dues.{pass}

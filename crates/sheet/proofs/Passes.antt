@@ -1,8 +1,8 @@
 -- The lines of a sheet, part by part. Assumes nothing.
 use Rattle.std.proofs.Common.{◌≡◌, ℕ, ◌<◌, List, [], ◌∷◌, ◌++◌, ℤ, Ok, Err, sym, ap, ◌∙◌, append_assoc, arith}
 use Rattle.std.proofs.lemmas.Bool.Decides.{nat_tests}
-use Rattle.board.specs.declared.refusal.Fault.TheVariants as fault
-use Rattle.board.specs.declared.refusal.Refusal.{Refusal}
+use Rattle.refusal.specs.declared.fault.Fault.TheVariants as fault
+use Rattle.refusal.specs.declared.refusal.Refusal.{Refusal}
 use Rattle.token.specs.Tokens.{Cursor}
 use Rattle.expect.specs.Dues.{Due.within, part_below, step, pass}
 use Rattle.expect.proofs.Passes.{on_first, stop_step, on_step}

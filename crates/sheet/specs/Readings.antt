@@ -2,9 +2,9 @@
 use Rattle.std.specs.Prelude.{◌≡◌, ℕ, zero, suc, cond, List, [], ◌∷◌, ◌++◌, map, length, drop, ℤ, pos, Ok, Err, Result, ◌==◌, nat_lt, slice_index_or, unsigned_abs}
 use Rattle.field.specs.Field.{FieldModel}
 use Rattle.board.specs.Banks.{filled}
-use Rattle.board.specs.declared.refusal.Fault.TheVariants as fault
-use Rattle.board.specs.declared.refusal.Refusal.{Refusal}
-use Rattle.board.specs.declared.refusal.Refusal.TheVariants.{TrayShort}
+use Rattle.refusal.specs.declared.fault.Fault.TheVariants as fault
+use Rattle.refusal.specs.declared.refusal.Refusal.{Refusal}
+use Rattle.refusal.specs.declared.refusal.Refusal.TheVariants.{TrayShort}
 use Rattle.token.specs.Tokens.{cursor_start}
 use Rattle.expect.specs.declared.keyword.Keyword.TheVariants.{Sheet, Grid, Claim, At, End}
 use Rattle.sheet.specs.declared.terms.Terms.{Terms}

@@ -5,7 +5,7 @@ ghost use Rattle.sheet.specs.Readings.{high_limit, value_line, claim_due, ending
 ghost use Rattle.expect.specs.Expectations.{passed_on, passed_number, passed_parts};
 
 use crate::terms::Terms;
-use board::{Fault, Refusal};
+use refusal::{Fault, Refusal};
 use expect::{Due, Keyword, number, part, pass};
 use field::Field;
 use token::Reader;

@@ -4,7 +4,8 @@ ghost use Rattle.sheet.specs.Readings.{reading, claim_of, Filled, read_answer, t
 
 use crate::lines::{claim_lines, last_line, value_line};
 use crate::terms::Terms;
-use board::{Refusal, fill_cells};
+use board::fill_cells;
+use refusal::Refusal;
 use field::Field;
 use token::Reader;
 

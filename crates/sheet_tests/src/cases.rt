@@ -1,6 +1,7 @@
 // The worked sheet, cut, changed and damaged.
 use crate::tables::{CHANGES, CUTS, SHEET};
-use board::{Fault, Refusal, Tag};
+use board::Tag;
+use refusal::{Fault, Refusal};
 use field::Field;
 use prime::Mod65537;
 use sheet::{Terms, read_sheet};

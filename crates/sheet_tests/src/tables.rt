@@ -1,6 +1,6 @@
 // What is refused where: fault, line and place.
-use board::Fault;
-use board::Fault::{Field, Malformed, Unexpected};
+use refusal::Fault;
+use refusal::Fault::{Field, Malformed, Unexpected};
 
 pub const SHEET: &[u8; 92] =
     b"(sheet 65537 1 (grid 2 8))\n(claim (4 0 0) 14)\n(at 0 (9 0))\n(at 1 (5 0))\n(at 2 (17 0))\n(end)\n";

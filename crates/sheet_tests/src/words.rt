@@ -1,5 +1,5 @@
 // The number of each refusal, where it lies, and what it says in words.
-use board::{Fault, Refusal};
+use refusal::{Fault, Refusal};
 use std::alloc::Global;
 use std::fmt::Display;
 use std::process::Abort;

@@ -1,7 +1,8 @@
 // What becomes of a host that cheats, and of sheets that are damaged. The board is that of the game: its squares add up to 14.
 use crate::game::COUNTED;
 use crate::show::Judged;
-use board::{Bank, Refusal};
+use board::Bank;
+use refusal::Refusal;
 use field::Field;
 use prime::Mod65537;
 use season::Squares;

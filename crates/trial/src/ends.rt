@@ -1,5 +1,6 @@
 // Both ends of a game over the residues modulo 65,537, each with its bank: while they listen, and sealed.
-use board::{Bank, Move, Refusal};
+use board::{Bank, Move};
+use refusal::Refusal;
 use prime::Mod65537;
 
 #[derive(Drop)]

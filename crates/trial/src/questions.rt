@@ -29,7 +29,7 @@ fn describe<F: Field, Q: Question<F>>(
     )?;
     match question.fit(grid) {
         Fit::Fits => {
-            if columns.len() == grid.columns() as usize {
+            if columns.len() == grid.columns as usize {
                 let value = question.rule(grid, point, columns);
                 println!(rt;
                     "    fits; the rule at the secret point has {}",

@@ -1,5 +1,6 @@
 // What is printed of answers, books and elements.
-use board::{Book, Refusal};
+use board::Book;
+use refusal::Refusal;
 use field::Field;
 use std::fmt;
 

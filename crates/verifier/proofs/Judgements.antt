@@ -1,8 +1,8 @@
 -- What a judgement comes to, step by step. Assumes nothing.
 use Rattle.std.proofs.Common.{◌≡◌, ℕ, suc, ◌<◌, ◌≤◌, Bool, true, false, cond, ltb, List, ◌++◌, length, take, drop, replicate, ℤ, is_err, Ok, Err, Result, sym, refl, ap, ◌∙◌, subst, ap₂, arith, length-append, length-drop, ltb-true, le-ltb}
 use lib.Seq.{take-append_seam, drop-append_seam}
-use Rattle.board.specs.declared.refusal.Refusal.{Refusal}
-use Rattle.board.specs.declared.refusal.Refusal.TheVariants.{BankShort, QuestionUnfit, TrayShort}
+use Rattle.refusal.specs.declared.refusal.Refusal.{Refusal}
+use Rattle.refusal.specs.declared.refusal.Refusal.TheVariants.{BankShort, QuestionUnfit, TrayShort}
 use Rattle.board.specs.Banks.{filled}
 use Rattle.field.specs.Field.{FieldModel}
 use Rattle.sheet.specs.Readings.{claim_of, tray_of, read_answer, tray_after}

@@ -2,10 +2,10 @@
 -- Assumes nothing but the laws of the field.
 use Rattle.std.proofs.Common.{◌≡◌, ℕ, zero, suc, ◌+◌, ◌*◌, ◌<◌, ◌≤◌, true, cond, List, [], ◌∷◌, length, get_or, take, drop, set, replicate, pos, Ok, Err, Result, sym, refl, ap, ◌∙◌, subst, ap₂, mod-lt, arith, length-set, get_or-take, drop-set-lt, le-ltb}
 use lib.Seq.{take-set-lt}
-use Rattle.board.specs.declared.game.Move.{Move}
-use Rattle.board.specs.declared.refusal.Refusal.{Refusal}
-use Rattle.board.specs.declared.refusal.Refusal.TheVariants.{BankShort}
-use Rattle.board.specs.Banks.{kept_or}
+use Rattle.board.specs.declared.moves.Move.{Move}
+use Rattle.refusal.specs.declared.refusal.Refusal.{Refusal}
+use Rattle.refusal.specs.declared.refusal.Refusal.TheVariants.{BankShort}
+use Rattle.board.specs.Answers.{kept_or}
 use Rattle.board.specs.Books.{ledger_standing, entered}
 use Rattle.board.specs.Grids.{grid_allowed, column_of}
 use Rattle.board.specs.Ledger.{Ledger, ledger_start, ledger_enter, ledger_answer, ledger_next, ledger_from, answers_from}

@@ -1,9 +1,9 @@
 -- What the calls of a listening box answer and leave. Assumes nothing.
 use Rattle.std.specs.Prelude.{ℕ, cond, List, length, Err, Result, nat_lt, slice_index_or, slice_set}
-use Rattle.board.specs.declared.game.Move.{Move}
-use Rattle.board.specs.declared.refusal.Refusal.{Refusal}
-use Rattle.board.specs.declared.refusal.Refusal.TheVariants.{BankShort}
-use Rattle.board.specs.Banks.{kept_or}
+use Rattle.board.specs.declared.moves.Move.{Move}
+use Rattle.refusal.specs.declared.refusal.Refusal.{Refusal}
+use Rattle.refusal.specs.declared.refusal.Refusal.TheVariants.{BankShort}
+use Rattle.board.specs.Answers.{kept_or}
 use Rattle.board.specs.Books.{entered, book_answer, open_answer, open_bank}
 use Rattle.board.specs.Standing.{Standing}
 use Rattle.board.specs.Grids.{row_of, column_of}

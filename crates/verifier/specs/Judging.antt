@@ -1,8 +1,8 @@
 -- What a box finds of a sheet. Nothing here speaks of an end: a judgement follows from the grid, the point, the bank's cells, the question, the sheet
 -- and the tray. Assumes nothing.
 use Rattle.std.specs.Prelude.{ℕ, suc, cond, List, ◌++◌, length, take, drop, ℤ, Ok, Err, Result, nat_lt}
-use Rattle.board.specs.declared.refusal.Refusal.{Refusal}
-use Rattle.board.specs.declared.refusal.Refusal.TheVariants.{BankShort, QuestionUnfit, TrayShort, SumWrong, PointWrong}
+use Rattle.refusal.specs.declared.refusal.Refusal.{Refusal}
+use Rattle.refusal.specs.declared.refusal.Refusal.TheVariants.{BankShort, QuestionUnfit, TrayShort, SumWrong, PointWrong}
 use Rattle.board.specs.Banks.{filled}
 use Rattle.field.specs.Field.{FieldModel, same}
 use Rattle.polynomial.specs.Polynomials.{eval}

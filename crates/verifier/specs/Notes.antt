@@ -1,7 +1,7 @@
 -- A box that is told moves stands as a ledger that is fed them, and its bank is the columns of the ledger's counts. Assumes nothing.
 use Rattle.std.specs.Prelude.{◌≡◌, ℕ, List, [], ◌∷◌, take, drop, Ok, Result}
-use Rattle.board.specs.declared.game.Move.{Move}
-use Rattle.board.specs.declared.refusal.Refusal.{Refusal}
+use Rattle.board.specs.declared.moves.Move.{Move}
+use Rattle.refusal.specs.declared.refusal.Refusal.{Refusal}
 use Rattle.board.specs.Books.{new_standing, ledger_standing}
 use Rattle.board.specs.Standing.{Standing}
 use Rattle.board.specs.Ledger.{ledger, ledger_answers}

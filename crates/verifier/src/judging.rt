@@ -5,7 +5,8 @@ ghost use Rattle.board.specs.Banks.{filled};
 ghost use Rattle.verifier.specs.Judging.{weighed, judged};
 
 use crate::weighing::weigh;
-use board::{Bank, Grid, Refusal, fill_cells};
+use board::{Bank, Grid, fill_cells};
+use refusal::Refusal;
 use field::Field;
 use protocol::Suited;
 use question::Question;
@@ -43,7 +44,7 @@ pub(crate) fn judge_cells<F: Field, Q: Question<F>>(
 ) -> Result<i64, Refusal>
     ensures { record { answer = result; tray = tray.new } ≡ judged F.Field.model grid.rows grid.columns point bank.now.cells.now (Q.Question.meaning question.now) sheet.now tray.old }
 {
-    let columns = bank.front(grid.columns() as usize)?;
+    let columns = bank.front(grid.columns as usize)?;
     let asked = Suited::new(question, grid)?;
     let claim = read_sheet(sheet, &asked.terms(), tray)?;
     settle(&asked, point, columns, claim, tray)

@@ -1,12 +1,13 @@
 // A box that listens: open, note, seal.
 ghost use Rattle.std.specs.Prelude.{◌≡◌, ◌*◌, ◌<◌, ◌≤◌, length, Ok, unsigned_abs};
 ghost use Rattle.board.specs.Banks.{Rewritten};
-ghost use Rattle.board.specs.Books.{granted};
+ghost use Rattle.board.specs.Answers.{granted};
 ghost use Rattle.verifier.specs.Calls.{verifier_open_answer, verifier_open_bank, added_column, verifier_note_answer, verifier_note_standing, verifier_note_bank};
 ghost use Rattle.verifier.specs.Granted.{Opened};
 
 use crate::end::{Listening, Sealed};
-use board::{Bank, Book, Grid, Move, Refusal};
+use board::{Bank, Book, Grid, Move};
+use refusal::Refusal;
 use field::Field;
 use polynomial::basis_at;
 
@@ -20,7 +21,7 @@ fn add_share<F: Field>(bank: &mut Bank<'_, F>, grid: Grid, point: F, m: Move) ->
 {
     let row = grid.row_of(m.cell) as u32;
     let column = grid.column_of(m.cell) as usize;
-    let share = F::image(m.amount as i32).product(basis_at(grid.rows(), row, point));
+    let share = F::image(m.amount as i32).product(basis_at(grid.rows, row, point));
     let sum = bank.get(column).ok_or(Refusal::BankShort)?;
     bank.put(column, sum.sum(share))
 }
@@ -38,7 +39,7 @@ impl<F: Field> Listening<F> {
         ensures bank { Rewritten bank.old.cells bank.new.cells (verifier_open_bank F.Field.model rows columns bank.old.cells.now) }
     {
         let grid = Grid::new(rows, columns)?;
-        bank.fill_front(grid.columns() as usize, F::zero())?;
+        bank.fill_front(grid.columns as usize, F::zero())?;
         Ok(Listening {
             book: Book::new(grid),
             point,
@@ -53,7 +54,7 @@ impl<F: Field> Listening<F> {
         ensures bank { Rewritten bank.old.cells bank.new.cells (verifier_note_bank F.Field.model self.old.book self.old.point bank.old.cells.now m) }
     {
         let grid = self.book.grid();
-        if bank.len() < grid.columns() as usize {
+        if bank.len() < grid.columns as usize {
             return Err(Refusal::BankShort);
         }
         self.book.accept(F::limit(), m)?;

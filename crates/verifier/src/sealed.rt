@@ -4,7 +4,8 @@ ghost use Rattle.verifier.specs.Judging.{judged};
 
 use crate::end::Sealed;
 use crate::judging::judge_cells;
-use board::{Bank, Book, Refusal};
+use board::{Bank, Book};
+use refusal::Refusal;
 use field::Field;
 use question::Question;
 

@@ -3,7 +3,7 @@ ghost use Rattle.std.specs.Prelude.{◌≡◌, suc, length};
 ghost use Rattle.polynomial.specs.Sums.{list_sum};
 ghost use Rattle.verifier.specs.Judging.{weighed};
 
-use board::Refusal;
+use refusal::Refusal;
 use field::Field;
 use polynomial::interpolate_at;
 use protocol::{Suited, claim_image};
@@ -33,7 +33,7 @@ pub(crate) fn weigh<F: Field, Q: Question<F>>(
     ensures { result ≡ weighed F.Field.model asked.now.grid.rows asked.now.grid.columns point columns.now (Q.Question.meaning asked.now.question.now) claim values.now }
 {
     let grid = asked.grid;
-    let sum = sum_of(&values[..grid.rows() as usize]);
+    let sum = sum_of(&values[..grid.rows as usize]);
     if sum != claim_image::<F>(claim) {
         return Err(Refusal::SumWrong);
     }

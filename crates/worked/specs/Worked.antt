@@ -1,10 +1,10 @@
 -- One board, and the limits of grids, moves and memory, worked out over the residues modulo 65,537: two rows, eight columns, and the moves (0, 3), (8, 1), (9, −2). Assumes nothing.
 use Rattle.std.specs.Prelude.{◌≡◌, ℕ, List, [], ◌∷◌, ◌++◌, map, take, replicate, ℤ, pos, negsuc, Ok, Err, codes, Result}
-use Rattle.board.specs.declared.refusal.Fault.TheVariants as fault
-use Rattle.board.specs.declared.refusal.Refusal.{Refusal}
-use Rattle.board.specs.declared.refusal.Refusal.TheVariants.{CellOutside, AmountOutside, TooHeavy, GridOutside, BankShort, CountOutside, QuestionUnfit, TrayShort, PaperShort, Sheet, SumWrong, PointWrong}
-use Rattle.board.specs.Refusals.{fault_number, number_of}
-use Rattle.board.specs.Books.{grid_answer}
+use Rattle.refusal.specs.declared.fault.Fault.TheVariants as fault
+use Rattle.refusal.specs.declared.refusal.Refusal.{Refusal}
+use Rattle.refusal.specs.declared.refusal.Refusal.TheVariants.{CellOutside, AmountOutside, TooHeavy, GridOutside, BankShort, CountOutside, QuestionUnfit, TrayShort, PaperShort, Sheet, SumWrong, PointWrong}
+use Rattle.refusal.specs.Refusals.{fault_number, number_of}
+use Rattle.board.specs.Grids.{grid_answer}
 use Rattle.board.specs.Ledger.{ledger, ledger_answers}
 use Rattle.field.specs.Field.{FieldModel}
 use Rattle.prime.specs.declared.residue.Residue.{Residue}

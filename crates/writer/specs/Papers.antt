@@ -1,8 +1,8 @@
 -- What writing a sheet answers, and what it leaves on the paper. Assumes nothing.
 use Rattle.std.specs.Prelude.{◌≡◌, ℕ, ◌+◌, ◌≤◌, Bool, cond, ◌&&◌, List, ◌++◌, length, take, drop, ℤ, pos, Ok, Err, Result, nat_le}
 use Rattle.field.specs.Field.{FieldModel}
-use Rattle.board.specs.declared.refusal.Refusal.{Refusal}
-use Rattle.board.specs.declared.refusal.Refusal.TheVariants.{PaperShort}
+use Rattle.refusal.specs.declared.refusal.Refusal.{Refusal}
+use Rattle.refusal.specs.declared.refusal.Refusal.TheVariants.{PaperShort}
 use Rattle.sheet.specs.declared.terms.Terms.{Terms}
 use Rattle.expect.specs.Dues.{Fixed.opening, Fixed.closing, Fixed.line_end, Fixed.word}
 use Rattle.layout.specs.Marks as marks

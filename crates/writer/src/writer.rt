@@ -5,7 +5,7 @@ ghost use Rattle.writer.specs.Texts.{written, text};
 ghost use Rattle.writer.specs.Papers.{Lays, Room, Puts, write_answer, paper_after};
 
 use crate::pen::Pen;
-use board::Refusal;
+use refusal::Refusal;
 use field::Field;
 use sheet::Terms;
 

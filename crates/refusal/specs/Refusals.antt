@@ -1,9 +1,9 @@
 -- The table of refusals: each case with its number, and where a sheet's fault lies. Assumes nothing.
 use Rattle.std.specs.Prelude.{ℕ, Some, None, Option}
-use Rattle.board.specs.declared.refusal.Fault.{Fault}
-use Rattle.board.specs.declared.refusal.Fault.TheVariants as fault
-use Rattle.board.specs.declared.refusal.Refusal.{Refusal}
-use Rattle.board.specs.declared.refusal.Refusal.TheVariants.{CellOutside, AmountOutside, TooHeavy, GridOutside, BankShort, CountOutside, QuestionUnfit, TrayShort, PaperShort, Sheet, SumWrong, PointWrong}
+use Rattle.refusal.specs.declared.fault.Fault.{Fault}
+use Rattle.refusal.specs.declared.fault.Fault.TheVariants as fault
+use Rattle.refusal.specs.declared.refusal.Refusal.{Refusal}
+use Rattle.refusal.specs.declared.refusal.Refusal.TheVariants.{CellOutside, AmountOutside, TooHeavy, GridOutside, BankShort, CountOutside, QuestionUnfit, TrayShort, PaperShort, Sheet, SumWrong, PointWrong}
 
 -- the number of a sheet's fault
 abbrev pub fault_number : Fault → ℕ
