@@ -2,6 +2,7 @@
 use Rattle.std.proofs.Common.{◌≡◌, ℕ, zero, suc, ◌*◌, ◌%◌, ◌<◌, ◌≤◌, ◌≢◌, ℤ, pos, negsuc, ◌+ℤ◌, ◌-ℤ◌, neg_ℤ, nat_abs, sym, refl, ap, ◌∙◌, mod-eq_of_lt, mul-le-mul, arith}
 use native.Mathlib.Decide.{dec_lt}
 use lib.IntN.{+ℤ_invr}
+use Rattle.field.specs.declared.limits.TheConstants.{GREATEST_LIMIT}
 use Rattle.field.specs.Field.{FieldModel, LawfulField, InRange}
 use Rattle.field.proofs.Solver.{mul-zero, zero-mul, one-mul, neg-mul, mul-neg, neg-neg, neg_unique}
 
@@ -56,10 +57,10 @@ module _ {K : Type 0} {F : FieldModel K} (L : LawfulField F) where
   image-sub m n hm hn h = L.images.of_add m (neg_ℤ n) hm (omega (arith, abs_neg n)) h ∙ ap (F.add (F.image m)) (image-neg n hn)
 
   -- a limit whose square is below the characteristic is at most 46,340
-  pub limit_small : F.limit ≤ 46340
+  pub limit_small : F.limit ≤ GREATEST_LIMIT
   limit_small = go (dec_lt 46340 F.limit)
     where
-      go : Dec (46340 < F.limit) → F.limit ≤ 46340
+      go : Dec (46340 < F.limit) → F.limit ≤ GREATEST_LIMIT
       go (yes h) =
           let k : 46341 * 46341 ≤ F.limit * F.limit = mul-le-mul {n₁ = 46341} {m₁ = 46341} {n₂ = F.limit} {m₂ = F.limit} h h in
           absurd (omega (arith, k, L.bounds.limit_most, L.bounds.characteristic_most))

@@ -1,7 +1,7 @@
 -- What sameness and the inverse say of elements. Assumes nothing.
-use Rattle.std.proofs.Common.{◌≡◌, Bool, true, false, ◌&&◌, eqb, ◌≢◌, ◌⊎◌, Some, None, sym, refl, ap, ◌∙◌, ap₂, inl, inr, eq-eqb, eqb-true}
+use Rattle.std.proofs.Common.{◌≡◌, Bool, true, false, ◌&&◌, eqb, ◌≢◌, ◌⊎◌, Some, None, if◌then◌else◌, sym, refl, ap, ◌∙◌, ap₂, inl, inr, eq-eqb, eqb-true}
 use borrow.Author.Tests.{clash}
-use Rattle.field.specs.Field.{FieldModel, LawfulField, Parts, same, unless, inverse}
+use Rattle.field.specs.Field.{FieldModel, LawfulField, Parts, same, inverse}
 use Rattle.field.proofs.Consequences.{factor_zero}
 
 -- both parts of a test that holds
@@ -37,10 +37,10 @@ module _ {K : Type 0} {F : FieldModel K} (P : Parts F) where
   decided x y = decide x y (same F x y) refl
 
   pub some_inverse : (x : K) → x ≢ F.zero → inverse F x ≡ Some (F.inv x)
-  some_inverse x n = elim (decided x F.zero) [ inl e ↦ absurd (n e.0) | inr e ↦ ap (λ b. unless b (F.inv x)) e.1 ]
+  some_inverse x n = elim (decided x F.zero) [ inl e ↦ absurd (n e.0) | inr e ↦ ap (λ b. if b then None else Some (F.inv x)) e.1 ]
 
   pub none_inverse : (x : K) → x ≡ F.zero → inverse F x ≡ None
-  none_inverse x e = ap (λ b. unless b (F.inv x)) (same_eq x F.zero e)
+  none_inverse x e = ap (λ b. if b then None else Some (F.inv x)) (same_eq x F.zero e)
 
 module _ {K : Type 0} {F : FieldModel K} (L : LawfulField F) where
   -- a square is zero only at zero

@@ -1,5 +1,5 @@
 -- What a field of the interface is: its operations, and the laws that make it lawful. Assumes nothing.
-use Rattle.std.specs.Prelude.{◌≡◌, ℕ, suc, ◌-◌, ◌*◌, ◌%◌, ◌<◌, ◌≤◌, Bool, true, false, ◌&&◌, ◌≢◌, ◌⊎◌, ℤ, pos, negsuc, ◌+ℤ◌, ◌*ℤ◌, Some, None, Option, ◌==◌, unsigned_abs}
+use Rattle.std.specs.Prelude.{◌≡◌, ℕ, suc, ◌-◌, ◌*◌, ◌%◌, ◌<◌, ◌≤◌, Bool, true, false, ◌&&◌, ◌≢◌, ◌⊎◌, ℤ, pos, negsuc, ◌+ℤ◌, ◌*ℤ◌, Some, None, Option, ◌==◌, if◌then◌else◌, nat_lt, unsigned_abs}
 
 -- the constants and the operations of a field with the elements K
 pub record FieldModel (K : Type 0) : Type 0 where
@@ -36,18 +36,21 @@ InRange n = unsigned_abs n ≤ 2147483647
 abbrev pub PartsOf : {K : Type 0} → FieldModel K → ℕ → ℕ → Type 0
 PartsOf F l h = (l < F.characteristic) × (h < F.characteristic) × (F.degree ≡ 1 → h ≡ 0)
 
+-- high parts are below this, at characteristic p and degree e: 0 alone where e is 1
+abbrev pub high_limit : ℕ → ℕ → ℕ
+high_limit p e = if e == 1 then 1 else p
+
+-- the element with these parts, where they are parts of one
+abbrev pub element : {K : Type 0} → FieldModel K → ℕ → ℕ → Option K
+element F l h = if nat_lt l F.characteristic && nat_lt h (high_limit F.characteristic F.degree) then Some (F.make l h) else None
+
 -- elements are the same where both parts agree
 abbrev pub same : {K : Type 0} → FieldModel K → K → K → Bool
 same F x y = F.low x == F.low y && F.high x == F.high y
 
--- nothing where the test holds
-abbrev pub unless : {K : Type 0} → Bool → K → Option K
-unless true y = None
-unless false y = Some y
-
 -- the inverse of an element, which zero does not have
 abbrev pub inverse : {K : Type 0} → FieldModel K → K → Option K
-inverse F x = unless (same F x F.zero) (F.inv x)
+inverse F x = if same F x F.zero then None else Some (F.inv x)
 
 -- the limits of the three constants
 pub record Bounds {K : Type 0} (F : FieldModel K) : Type 0 where
