@@ -1,4 +1,5 @@
-// The elements of a quadratic extension, and their field. A product takes five products of the base, an inverse five and one inverse.
+// The elements of a quadratic extension, and their field.
+// A product takes five products of the base, an inverse five and one inverse.
 ghost use Rattle.std.specs.Prelude.{◌≡◌, refl};
 ghost use Rattle.extension.specs.Pairs.{conjugate_times, norm, quadratic};
 ghost use Rattle.extension.specs.Laws.{pair_lawful, pair_equality};
@@ -89,7 +90,8 @@ impl<B: BaseField> Field for Extension<B> {
 
     ghost lawful = { pair_lawful B.Field.model B.BaseField.w B.Field.lawful B.BaseField.base };
 
-    ghost equality = { pair_equality B.Field.model B.BaseField.w B.Field.lawful B.BaseField.base B.PartialEq.eq B.Field.equality };
+    ghost equality = { pair_equality
+        B.Field.model B.BaseField.w B.Field.lawful B.BaseField.base B.PartialEq.eq B.Field.equality };
 
     ghost characteristic_is = { B.Field.characteristic_is };
 

@@ -24,8 +24,8 @@ impl fmt::Display for UnknownField {
 
 impl Error for UnknownField {}
 
-/// Does a task over the named field of characteristic p and degree e. Other numbers than 65,537 or 2,147,483,647 and 1 or 2 are unknown,
-/// and nothing is done.
+/// Does a task over the named field of characteristic p and degree e. Where p is neither 65,537 nor
+/// 2,147,483,647, or e neither 1 nor 2, there is none, and nothing is done.
 pub fn with_field<T: FieldTask + Drop>(p: u32, e: u32, task: T) -> Result<T::Out, UnknownField>
     ensures known { IsOk result ↔ IsTrue (is_named p e) }
     ensures done { IfOk result (λ out. T.run_gives p e task out) }

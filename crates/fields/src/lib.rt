@@ -1,5 +1,5 @@
-//! The four named fields, the residues modulo 65,537 and modulo 2,147,483,647 and the extension of each,
-//! and the choice of one of them while a program runs.
+//! The four named fields: the residues modulo 65,537 and modulo 2,147,483,647, and the extension
+//! of each; and the choice of one of them while a program runs.
 #![tactic(auto)]
 
 mod choice;

@@ -86,7 +86,8 @@ impl NamedField {
         }
     }
 
-    /// The number that t × t is in the extension of the residues modulo p, 3 or 2,147,483,646: no square modulo p.
+    /// The number that t × t is in the extension of the residues modulo p: 3 or 2,147,483,646,
+    /// which is no square modulo p.
     pub fn non_square(self) -> u32
         ensures { result ≡ non_square_of self }
     {

@@ -8,7 +8,8 @@ pub trait FieldTask {
     /// What it comes to.
     type Out;
 
-    // what it comes to over a field of characteristic p and degree e; a task that leaves this out promises nothing
+    // what it comes to over a field of characteristic p and degree e;
+    // a task that leaves this out promises nothing
     ghost run_gives: { ℕ → ℕ → Self → Self.Out → Type 0 } = { λ p e task out. ⊤ };
 
     /// Does it over this field.

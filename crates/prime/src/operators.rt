@@ -1,4 +1,5 @@
-// Sums, products and opposites of residues. None has a loop; a sum and an opposite take no division.
+// Sums, products and opposites of residues. None has a loop;
+// a sum and an opposite take no division.
 ghost use Rattle.std.specs.Prelude.{◌≡◌};
 ghost use Rattle.prime.specs.Residues.{plus, minus, times};
 

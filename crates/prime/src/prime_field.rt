@@ -1,4 +1,5 @@
-// The prime field of the residues modulo P, for every modulus P. No operation but the inverse has a loop.
+// The prime field of the residues modulo P, for every modulus P.
+// No operation but the inverse has a loop.
 ghost use Rattle.std.specs.Prelude.{◌≡◌, ◌*◌, ◌<◌, pos, ◌+ℤ◌, refl};
 ghost use Rattle.std.proofs.Math.Bool.{and-true};
 ghost use Rattle.std.proofs.Common.{sym, rules};
@@ -9,7 +10,8 @@ use crate::modulus::Modulus;
 use crate::residue::Residue;
 use field::{BaseField, Field};
 
-// A number and so many times P that the sum is not negative: it leaves what the number leaves, with no case for its sign.
+// A number and so many times P that the sum is not negative:
+// it leaves what the number leaves, with no case for its sign.
 fn raised(n: i32, p: u32) -> u64
     requires { 0 < p }
     ensures { pos result ≡ n +ℤ pos (p * 2147483648) }
@@ -35,7 +37,10 @@ where
 
     const LIMIT: u32 = <Self as Modulus<P>>::LIMIT;
 
-    ghost lawful = { lawful {w = ⟦<Residue<P> as Modulus<P>>⟧.NON_SQUARE} ⟦<Residue<P> as Modulus<P>>⟧.positive (Prim.search rules) };
+    ghost lawful = { lawful
+        {w = ⟦<Residue<P> as Modulus<P>>⟧.NON_SQUARE}
+        ⟦<Residue<P> as Modulus<P>>⟧.positive
+        (Prim.search rules) };
 
     ghost equality = { λ x y. sym (and-true _) };
 

@@ -18,9 +18,9 @@ impl<const P: u32> Residue<P> {
         self.value
     }
 
-    // What times the residue leaves 1 modulo a prime P, by the extended Euclidean algorithm with its coefficients reduced modulo P:
-    // each remainder r is its t times the residue. Nothing at 0.
-    // A loop and no chain, since each step needs both remainders and both coefficients.
+    // What times the residue leaves 1 modulo a prime P; nothing at 0. It is the extended Euclidean
+    // algorithm with its coefficients reduced modulo P: each remainder r is its t times the residue.
+    // Each turn needs both remainders and both coefficients.
     pub(crate) fn inverted(self) -> Option<Self>
         requires least { 1 < P }
         requires most { P ≤ 2147483647 }
