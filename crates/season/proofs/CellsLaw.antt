@@ -12,18 +12,17 @@ use Rattle.std.specs.List.{AllByRecursion}
 use Rattle.polynomial.specs.Sums.{sum_from}
 use Rattle.polynomial.specs.Polynomials.{eval, poly_add, poly_mul}
 use Rattle.polynomial.specs.Interpolation.{node, chi, basis}
-use Rattle.polynomial.specs.Columns.{count_at, row}
+use Rattle.polynomial.specs.Columns.{count_image, row_images}
 use Rattle.polynomial.proofs.Evals.{eval-poly_add, eval-poly_mul, length-poly_add, length-poly_mul}
 use Rattle.polynomial.proofs.Lagrange.{lagrange_basis, eval-basis, chi_here, chi_elsewhere}
 use Rattle.polynomial.proofs.Sums.{get_or-listed, sum_single, sum_zeros, sum-add}
-use Rattle.question.specs.declared.outcome.Fit.{Fit}
-use Rattle.question.specs.declared.outcome.Fit.TheVariants as fit
-use Rattle.board.specs.declared.tag.Tag.{Tag}
-use Rattle.question.specs.Question.{SmallTag, LawfulQuestion}
-use Rattle.question.specs.Cells.{cells_tally, cells_rule, cells_question, cell_question, cells_between, range_question}
+use Rattle.season.specs.Cells.{cells_tally, cells_rule, CellsLawful}
+use Rattle.season.specs.Cell.{CellLawful}
+use Rattle.season.specs.Range.{cells_between, RangeLawful}
 use Rattle.board.proofs.Grids.{AllowedGrid, allowed_grid}
-use Rattle.question.proofs.Grids.{test_holds, row_below}
-use Rattle.question.proofs.Bounds.{abs_least, abs_most, narrow_limit, limit_range, neg_limit_range}
+use Rattle.question.proofs.Fits.{test_holds}
+use Rattle.season.proofs.Rows.{row_below}
+use Rattle.season.proofs.Bounds.{abs_least, abs_most, narrow_limit, limit_range, neg_limit_range}
 
 -- ---- the counts at some cells
 -- their absolute values, added
@@ -90,24 +89,24 @@ module _ {K : Type 0} {F : FieldModel K} (L : LawfulField F) where
         (length_cells is ps b.1 e)
 
     -- ---- the rows add up to the image of the tally
-    one_cell : (fs : List ℤ) (i : ℕ) → i < h * v → sum_from F 0 h (λ x. F.mul (chi F h (i / v) (node F x)) (get_or (row F v fs x) (i % v) F.zero)) ≡ F.image (get_or fs i (pos 0))
+    one_cell : (fs : List ℤ) (i : ℕ) → i < h * v → sum_from F 0 h (λ x. F.mul (chi F h (i / v) (node F x)) (get_or (row_images F v fs x) (i % v) F.zero)) ≡ F.image (get_or fs i (pos 0))
     one_cell fs i b =
         let x : i / v < h = row_below h v i (omega arith) b in
         let y : i % v < v = mod-lt i (omega arith) in
         let z : 0 + i % v ≡ i % v = omega arith in
-        sum_single L h (i / v) _ x (λ k c d. ap (λ w. F.mul w (get_or (row F v fs k) (i % v) F.zero)) (chi_elsewhere L h (i / v) k c d) ∙ zero-mul L.ring _)
-        ∙ ap₂ F.mul (chi_here L h (i / v) (omega arith) (omega arith)) (get_or-listed 0 v (λ y. count_at F v fs y (i / v)) (i % v) F.zero y ∙ ap (λ y. count_at F v fs y (i / v)) z)
+        sum_single L h (i / v) _ x (λ k c d. ap (λ w. F.mul w (get_or (row_images F v fs k) (i % v) F.zero)) (chi_elsewhere L h (i / v) k c d) ∙ zero-mul L.ring _)
+        ∙ ap₂ F.mul (chi_here L h (i / v) (omega arith) (omega arith)) (get_or-listed 0 v (λ y. count_image F v fs y (i / v)) (i % v) F.zero y ∙ ap (λ y. count_image F v fs y (i / v)) z)
         ∙ one-mul L.ring _ ∙ ap (λ n. F.image (get_or fs n (pos 0))) (div-add-mod' i v)
 
-    cells_add_up : (is : List ℕ) (fs : List ℤ) → AllByRecursion (λ i. i < h * v) is → cells_abs is fs ≤ 2147483647 → sum_from F 0 h (λ x. cells_rule F h v is (node F x) (row F v fs x)) ≡ F.image (cells_tally is fs)
+    cells_add_up : (is : List ℕ) (fs : List ℤ) → AllByRecursion (λ i. i < h * v) is → cells_abs is fs ≤ 2147483647 → sum_from F 0 h (λ x. cells_rule F h v is (node F x) (row_images F v fs x)) ≡ F.image (cells_tally is fs)
     cells_add_up [] fs b s = sum_zeros L 0 h ∙ sym L.images.of_zero
     cells_add_up (i ∷ is) fs b s =
-        sum-add L 0 h (λ x. F.mul (chi F h (i / v) (node F x)) (get_or (row F v fs x) (i % v) F.zero)) (λ x. cells_rule F h v is (node F x) (row F v fs x))
+        sum-add L 0 h (λ x. F.mul (chi F h (i / v) (node F x)) (get_or (row_images F v fs x) (i % v) F.zero)) (λ x. cells_rule F h v is (node F x) (row_images F v fs x))
         ∙ ap₂ F.add (one_cell fs i b.0) (cells_add_up is fs b.1 (omega arith))
         ∙ sym (L.images.of_add (get_or fs i (pos 0)) (cells_tally is fs) (omega arith) (omega (arith, tally_abs is fs)) (omega (arith, tally_abs (i ∷ is) fs)))
 
   -- ---- lawful
-  pub cells_lawful : (t : Tag) → SmallTag t → (fits : ℕ → ℕ → Fit) (is : List ℕ) → Distinct is → ((h v : ℕ) → fits h v ≡ fit.Fits → AllByRecursion (λ i. i < h * v) is) → LawfulQuestion F (cells_question F t fits is)
+  pub cells_lawful : CellsLawful F
   cells_lawful t small test is d inside = record {
     tag_small = small;
     degree_least = λ h v fits. omega arith;
@@ -123,10 +122,10 @@ module _ {K : Type 0} {F : FieldModel K} (L : LawfulField F) where
     greatest_range = λ h v fits. limit_range L;
   }
 
-  pub cell_lawful : (i : ℕ) → i ≤ 4294967295 → LawfulQuestion F (cell_question F i)
+  pub cell_lawful : CellLawful F
   cell_lawful i b = cells_lawful _ (omega arith) _ (i ∷ []) (tt, tt) (λ h v e. (ltb-true i (h * v) (test_holds (ltb i (h * v)) e), tt))
 
-  pub range_lawful : (a b : ℕ) → a ≤ 4294967295 → b ≤ 4294967295 → LawfulQuestion F (range_question F a b)
+  pub range_lawful : RangeLawful F
   range_lawful a b p q =
       cells_lawful _ (omega arith) _ (cells_between a b) (distinct_range a (suc b - a))
       (λ h v e.

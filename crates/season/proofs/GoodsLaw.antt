@@ -7,14 +7,14 @@ use Rattle.polynomial.specs.Lists.{listed}
 use Rattle.std.specs.List.{AllByRecursion}
 use Rattle.polynomial.specs.Sums.{sum_from}
 use Rattle.polynomial.specs.Polynomials.{eval, poly_add}
-use Rattle.polynomial.specs.Columns.{count_at, row}
+use Rattle.polynomial.specs.Columns.{count_image, row_images}
 use Rattle.polynomial.proofs.Evals.{eval-poly_add, length-poly_add}
 use Rattle.polynomial.proofs.Sums.{sum_cong, all_cells}
 use Rattle.question.specs.Question.{LawfulQuestion}
-use Rattle.question.specs.GoodsSums.{goods_tally, goods_rule, goods_question}
-use Rattle.question.proofs.Tallies.{cond-abs, goods_abs}
+use Rattle.season.specs.Goods.{goods_tally, goods_rule, goods_question, GoodsLawful}
+use Rattle.season.proofs.Tallies.{cond-abs, goods_abs}
 use Rattle.board.proofs.Grids.{allowed_grid}
-use Rattle.question.proofs.Bounds.{abs_least, abs_most, narrow_limit, limit_range, neg_limit_range}
+use Rattle.season.proofs.Bounds.{abs_least, abs_most, narrow_limit, limit_range, neg_limit_range}
 
 -- a row has a multiple of eight columns, so a cell and its column are of the same goods
 same_goods : (v x y : ℕ) → v % 8 ≡ 0 → (x * v + y) % 8 ≡ y % 8
@@ -44,10 +44,10 @@ module _ {K : Type 0} {F : FieldModel K} (L : LawfulField F) where
         (goods_image (suc j) fs G (λ k c. let s : suc j + k ≡ j + suc k = omega arith in ap G s ∙ e (suc k) (omega arith)) (omega arith))
         ∙ sym (L.images.of_add (cond (eqb (j % 8) g) f (pos 0)) (goods_tally g (suc j) fs) (omega (arith, cond-abs (eqb (j % 8) g) f)) (omega (arith, goods_abs g (suc j) fs)) (omega (arith, goods_abs g j (f ∷ fs))))
 
-    goods_add_up : (h v : ℕ) (fs : List ℤ) → v % 8 ≡ 0 → length fs ≡ h * v → abs_sum fs ≤ 2147483647 → sum_from F 0 h (λ x. goods_rule F g 0 (row F v fs x)) ≡ F.image (goods_tally g 0 fs)
+    goods_add_up : (h v : ℕ) (fs : List ℤ) → v % 8 ≡ 0 → length fs ≡ h * v → abs_sum fs ≤ 2147483647 → sum_from F 0 h (λ x. goods_rule F g 0 (row_images F v fs x)) ≡ F.image (goods_tally g 0 fs)
     goods_add_up h v fs e n b =
-        sum_cong L 0 h _ _ (λ x p q. goods_listed 0 v (λ y. count_at F v fs y x)
-        ∙ sum_cong L 0 v _ (λ y. cond (eqb ((x * v + y) % 8) g) (F.image (get_or fs (x * v + y) (pos 0))) F.zero) (λ y c d. ap (λ k. cond (eqb k g) (count_at F v fs y x) F.zero) (sym (same_goods v x y e))))
+        sum_cong L 0 h _ _ (λ x p q. goods_listed 0 v (λ y. count_image F v fs y x)
+        ∙ sum_cong L 0 v _ (λ y. cond (eqb ((x * v + y) % 8) g) (F.image (get_or fs (x * v + y) (pos 0))) F.zero) (λ y c d. ap (λ k. cond (eqb k g) (count_image F v fs y x) F.zero) (sym (same_goods v x y e))))
         ∙ all_cells L h v (λ i. cond (eqb (i % 8) g) (F.image (get_or fs i (pos 0))) F.zero)
         ∙ ap (λ k. sum_from F 0 k (λ i. cond (eqb (i % 8) g) (F.image (get_or fs i (pos 0))) F.zero)) (sym n)
         ∙ goods_image 0 fs (λ i. get_or fs i (pos 0)) (λ k c. let z : 0 + k ≡ k = omega arith in ap (λ i. get_or fs i (pos 0)) z) b
@@ -74,8 +74,8 @@ module _ {K : Type 0} {F : FieldModel K} (L : LawfulField F) where
         part true = e.0
         part false = omega arith
 
-    pub goods_lawful : g ≤ 4294967295 → LawfulQuestion F (goods_question F g)
-    goods_lawful small = record {
+    pub lawful_at : g ≤ 4294967295 → LawfulQuestion F (goods_question F g)
+    lawful_at small = record {
       tag_small = omega arith;
       degree_least = λ h v fits. omega arith;
       degree_most = λ h v fits. omega arith;
@@ -89,3 +89,6 @@ module _ {K : Type 0} {F : FieldModel K} (L : LawfulField F) where
       least_range = λ h v fits. neg_limit_range L;
       greatest_range = λ h v fits. limit_range L;
     }
+
+  pub goods_lawful : GoodsLawful F
+  goods_lawful g small = lawful_at g small

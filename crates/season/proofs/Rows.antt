@@ -1,14 +1,7 @@
--- What a question that fits a grid says, and the rows of its cells. Assumes nothing.
-use Rattle.std.proofs.Common.{◌≡◌, ℕ, ◌*◌, ◌<◌, ◌≤◌, Bool, true, false, refl, arith}
+-- The rows of cells. Assumes nothing.
+use Rattle.std.proofs.Common.{ℕ, ◌*◌, ◌<◌, ◌≤◌, arith}
 use Rattle.std.proofs.lemmas.Nat.{rows}
 use Rattle.board.specs.Grids.{row_of}
-use Rattle.question.specs.declared.outcome.Fit.TheVariants as fit
-use Rattle.question.specs.Question.{fits_if}
-
--- a question fits only where its test holds
-pub test_holds : (b : Bool) → fits_if b ≡ fit.Fits → b ≡ true
-test_holds true e = refl
-test_holds false e = cc
 
 -- the row of a cell of the grid
 pub row_below : (h v i : ℕ) → 0 < v → i < h * v → row_of v i < h

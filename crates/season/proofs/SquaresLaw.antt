@@ -8,12 +8,11 @@ use Rattle.polynomial.specs.Lists.{listed}
 use Rattle.std.specs.List.{AllByRecursion}
 use Rattle.polynomial.specs.Sums.{sum_from}
 use Rattle.polynomial.specs.Polynomials.{eval, poly_add, poly_mul}
-use Rattle.polynomial.specs.Columns.{count_at, row}
+use Rattle.polynomial.specs.Columns.{count_image, row_images}
 use Rattle.polynomial.proofs.Evals.{eval-poly_add, eval-poly_mul, length-poly_add, length-poly_mul}
 use Rattle.polynomial.proofs.Sums.{sum_cong, all_cells}
-use Rattle.question.specs.Question.{LawfulQuestion}
-use Rattle.question.specs.SquareSums.{squares_tally, squares_rule, squares_question}
-use Rattle.question.proofs.Tallies.{squares_sum, square, squares_pos, squares_bound}
+use Rattle.season.specs.Squares.{squares_tally, squares_rule, SquaresLawful}
+use Rattle.season.proofs.Tallies.{squares_sum, square, squares_pos, squares_bound}
 use Rattle.board.proofs.Grids.{allowed_grid}
 
 module _ {K : Type 0} {F : FieldModel K} (L : LawfulField F) where
@@ -39,9 +38,9 @@ module _ {K : Type 0} {F : FieldModel K} (L : LawfulField F) where
       (squares_image (suc j) fs G (λ k d. let s : suc j + k ≡ j + suc k = omega arith in ap G s ∙ e (suc k) (omega arith)) (omega arith) (omega arith))
       ∙ sym (L.images.of_add (f *ℤ f) (squares_tally fs) (omega arith) (omega arith) (omega arith))
 
-  squares_add_up : (h v : ℕ) (fs : List ℤ) → length fs ≡ h * v → abs_sum fs ≤ F.limit → sum_from F 0 h (λ x. squares_rule F (row F v fs x)) ≡ F.image (squares_tally fs)
+  squares_add_up : (h v : ℕ) (fs : List ℤ) → length fs ≡ h * v → abs_sum fs ≤ F.limit → sum_from F 0 h (λ x. squares_rule F (row_images F v fs x)) ≡ F.image (squares_tally fs)
   squares_add_up h v fs n b =
-      sum_cong L 0 h _ _ (λ x p q. squares_listed 0 v (λ y. count_at F v fs y x))
+      sum_cong L 0 h _ _ (λ x p q. squares_listed 0 v (λ y. count_image F v fs y x))
       ∙ all_cells L h v (λ i. F.mul (F.image (get_or fs i (pos 0))) (F.image (get_or fs i (pos 0))))
       ∙ ap (λ k. sum_from F 0 k (λ i. F.mul (F.image (get_or fs i (pos 0))) (F.image (get_or fs i (pos 0))))) (sym n)
       ∙ squares_image 0 fs (λ i. get_or fs i (pos 0)) (λ k c. let z : 0 + k ≡ k = omega arith in ap (λ i. get_or fs i (pos 0)) z) (omega (arith, limit_small L)) (omega (arith, squares_limit fs b, L.bounds.limit_most, L.bounds.characteristic_most))
@@ -60,7 +59,7 @@ module _ {K : Type 0} {F : FieldModel K} (L : LawfulField F) where
   length_squares n [] e = omega arith
   length_squares n (p ∷ ps) e = length-poly_add L (poly_mul F p p) (squares_poly ps) (suc (2 * n)) (omega (arith, length-poly_mul L p p n n e.0 e.0)) (length_squares n ps e.1)
 
-  pub squares_lawful : LawfulQuestion F (squares_question F)
+  pub squares_lawful : SquaresLawful F
   squares_lawful = record {
     tag_small = omega arith;
     degree_least = λ h v fits. omega arith;

@@ -2,8 +2,8 @@
 use Rattle.std.proofs.Common.{◌≡◌, ℕ, suc, ◌+◌, ◌*◌, ◌%◌, ◌≤◌, Bool, true, false, cond, eqb, List, [], ◌∷◌, ℤ, pos, negsuc, ◌+ℤ◌, ◌*ℤ◌, nat_abs, refl, ap₂, arith}
 use Rattle.board.specs.Ledger.{abs_sum}
 use Rattle.board.proofs.Ledgers.{abs-add}
-use Rattle.question.specs.GoodsSums.{goods_tally}
-use Rattle.question.specs.SquareSums.{squares_tally}
+use Rattle.season.specs.Goods.{goods_tally}
+use Rattle.season.specs.Squares.{squares_tally}
 
 -- ---- goods
 pub cond-abs : (b : Bool) (f : ℤ) → nat_abs (cond b f (pos 0)) ≤ nat_abs f

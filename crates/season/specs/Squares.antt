@@ -1,7 +1,7 @@
 -- The question about the sum of the squares of all counts. Assumes nothing.
 use Rattle.std.specs.Prelude.{◌-◌, ◌*◌, true, List, [], ◌∷◌, ℤ, pos, ◌+ℤ◌, ◌*ℤ◌}
 use Rattle.field.specs.Field.{FieldModel}
-use Rattle.question.specs.Question.{QuestionModel, fits_if}
+use Rattle.question.specs.Question.{QuestionModel, LawfulQuestion, fits_if}
 
 -- the sum of the squares of the counts
 abbrev pub squares_tally : List ℤ → ℤ
@@ -25,3 +25,7 @@ module _ {K : Type 0} (F : FieldModel K) where
     tally = λ h v fs. squares_tally fs;
     rule = λ h v X cs. squares_rule cs;
   }
+
+  -- it is lawful
+  abbrev pub SquaresLawful : Type 0
+  SquaresLawful = LawfulQuestion F squares_question
