@@ -26,7 +26,8 @@ fn basis_total<F: Field>(rows: u32, start: u32, end: u32, point: F) -> F
     requires few { rows ≤ 64 }
     requires ordered { start ≤ end }
     requires inside { end ≤ rows }
-    ensures { result ≡ sum_from F.Field.model start (end - start) (λ x. chi F.Field.model rows x point) }
+    ensures { result ≡ sum_from F.Field.model start (end - start)
+        (λ x. chi F.Field.model rows x point) }
 {
     (start..end).fold(F::zero(), |all, x| all + basis_at(rows, x, point))
 }
@@ -37,7 +38,8 @@ fn rows_rule<F: Field>(grid: Grid, first: u64, last: u64, point: F, columns: &[F
     requires ordered { first ≤ last }
     requires inside { last < grid.rows * grid.columns }
     requires wide { length columns.now ≡ grid.columns }
-    ensures { result ≡ cells_rule F.Field.model grid.rows grid.columns (cells_between first last) point columns.now }
+    ensures { result ≡ cells_rule F.Field.model grid.rows grid.columns
+        (cells_between first last) point columns.now }
 {
     let rows = grid.rows;
     let x = grid.row_of(first) as u32;
