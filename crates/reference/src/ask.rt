@@ -51,8 +51,8 @@ impl Ask {
     }
 
     /// The least and the greatest claim, where weights are within a limit.
-    pub fn limits(self, limit: u64) -> Limits {
-        let most = i64::try_from(limit).unwrap_or(0);
+    pub fn limits(self, limit: u32) -> Limits {
+        let most = i64::from(limit);
         match self {
             Ask::Squares => Limits {
                 least: 0,
