@@ -1,8 +1,9 @@
-// How often a call was granted, and how often it came to each refusal.
+// How often a call came to what.
 
 // The numbers of refusals are below this.
 const BEYOND: usize = 64;
 
+// How often a call was granted, and how often it came to each refusal's number.
 #[derive(Clone, Copy)]
 pub(crate) struct Counts {
     granted: u64,
@@ -20,10 +21,10 @@ impl Counts {
     // Counts a call that was granted, or a refusal's number.
     pub(crate) fn add(&mut self, came: Result<(), u64>) {
         match came {
-            Ok(()) => self.granted = self.granted.wrapping_add(1),
+            Ok(()) => self.granted = self.granted.saturating_add(1),
             Err(number) => {
                 if let Some(count) = self.refused.get_mut(number as usize) {
-                    *count = count.wrapping_add(1);
+                    *count = count.saturating_add(1);
                 }
             }
         }
