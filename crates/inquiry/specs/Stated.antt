@@ -1,4 +1,4 @@
--- A question that fits every grid, states any degree and counts nothing. Assumes nothing.
+-- A question that fits every grid, states any degree and counts nothing.
 use Rattle.std.specs.Prelude.{ℕ, true, pos, neg_ℤ}
 use Rattle.field.specs.Field.{FieldModel}
 use Rattle.question.specs.Question.{QuestionModel, fits_if}

@@ -1,22 +1,22 @@
-// Both ends of a game, each in the product and in the reference, while they listen.
+// Both ends of a game while they listen.
 use crate::hosts::HostPair;
-use crate::outcome::Outcome;
-use crate::sealed::Sealed;
-use crate::table::Table;
 use crate::verifiers::VerifierPair;
-use board::Move;
 use field::Field;
-use reference::Element;
+use reference::{Element, Move};
+use report::{Outcome, Table};
 use std::alloc::AllocError;
 
+/// Two hosts and two boxes, told the same.
 #[derive(Drop)]
 pub struct Listening<F: Field> {
+    /// The hosts.
     pub host: HostPair<F>,
+    /// The boxes.
     pub verifier: VerifierPair<F>,
 }
 
 impl<F: Field> Listening<F> {
-    // Opens both ends on a board at a secret point, over banks of this content; nothing where one refuses.
+    /// Opens all on a board, the boxes at a secret point, over banks of this content; nothing where one refuses.
     pub fn open(
         table: &mut Table,
         rows: u64,
@@ -33,7 +33,7 @@ impl<F: Field> Listening<F> {
         )
     }
 
-    // Tells both ends a move: what the host's and what the box's call came to.
+    /// Tells all a move: what the calls of the product's host and box came to.
     pub fn note(
         &mut self,
         table: &mut Table,
@@ -42,20 +42,5 @@ impl<F: Field> Listening<F> {
         let at_host = self.host.note(table, m)?;
         let at_verifier = self.verifier.note(table, m)?;
         Ok((at_host, at_verifier))
-    }
-
-    pub fn seal(self) -> Sealed<F> {
-        let Listening { host, verifier } = self;
-        Sealed {
-            host: host.product.seal(),
-            host_at: host.standing,
-            counts: host.cells,
-            plain_counts: host.plain,
-            verifier: verifier.product.seal(),
-            verifier_at: verifier.standing,
-            point: verifier.secret,
-            sums: verifier.cells,
-            plain_sums: verifier.plain,
-        }
     }
 }

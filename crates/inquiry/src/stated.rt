@@ -1,12 +1,14 @@
 // A question that states any degree, suiting the grid or not.
-ghost use Rattle.comparison.specs.Stated.{stated_question};
+ghost use Rattle.inquiry.specs.Stated.{stated_question};
 
-use board::Grid;
+use board::{Grid, Tag};
 use field::Field;
-use question::{Fit, Question, Tag};
+use question::{Fit, Question};
 
-#[derive(Clone, Copy)]
+/// A question that fits every grid, states this degree and counts nothing; its tag is 5, the degree, 0.
+#[derive(Clone, Copy, PartialEq, Eq, Debug)]
 pub struct Stated {
+    /// The degree.
     pub degree: u32,
 }
 
@@ -22,11 +24,11 @@ impl<F: Field> Question<F> for Stated {
     }
 
     fn least(&self) -> i64 {
-        -i64::from(F::limit())
+        -i64::from(F::LIMIT)
     }
 
     fn greatest(&self) -> i64 {
-        i64::from(F::limit())
+        i64::from(F::LIMIT)
     }
 
     fn tag(&self) -> Tag {

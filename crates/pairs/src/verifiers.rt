@@ -1,13 +1,15 @@
 // A box of the product and one of the reference, at the same secret point.
-use crate::call::Call;
-use crate::convert::{element, parts, plain_move};
-use crate::ends::{End, Names, Pair};
+use crate::end::End;
+use crate::names::Names;
+use crate::pair::Pair;
 use board::{Bank, Book, Move};
-use refusal::Refusal;
 use field::Field;
 use reference::{Arithmetic, Element, Game, Standing, Stop, note_at_verifier, open_verifier};
+use refusal::Refusal;
+use report::{Call, element, parts};
 use verifier::Listening;
 
+/// Two boxes, told the same.
 pub type VerifierPair<F> = Pair<Listening<F>>;
 
 impl<F: Field> End for Listening<F> {
@@ -17,18 +19,16 @@ impl<F: Field> End for Listening<F> {
 
     type Secret = Element;
 
-    fn names() -> Names {
-        Names {
-            open: Call::OpenBox,
-            note: Call::NoteBox,
-            opening: "opening a box",
-            opened_bank: "the box's bank after opening",
-            telling: "a move at the box",
-            weight: "the box's weight",
-            number: "the box's number",
-            bank: "the box's bank",
-        }
-    }
+    const NAMES: Names = Names {
+        open: Call::OpenBox,
+        note: Call::NoteBox,
+        opening: "opening a box",
+        opened_bank: "the box's bank after opening",
+        telling: "a move at the box",
+        weight: "the box's weight",
+        number: "the box's number",
+        bank: "the box's bank",
+    };
 
     fn cell(plain: Element) -> F {
         element(plain)
@@ -53,7 +53,7 @@ impl<F: Field> End for Listening<F> {
         columns: u64,
         bank: &mut [Element],
     ) -> Result<Standing, Stop> {
-        open_verifier(field, rows, columns, bank).map_err(Stop::from)
+        Ok(open_verifier(field, rows, columns, bank)?)
     }
 
     fn told(&mut self, bank: &mut Bank<'_, F>, m: Move) -> Result<(), Refusal> {
@@ -64,9 +64,9 @@ impl<F: Field> End for Listening<F> {
         game: Game,
         secret: Element,
         bank: &mut [Element],
-        m: Move,
+        m: reference::Move,
     ) -> Result<Standing, Stop> {
-        note_at_verifier(game, secret, bank, plain_move(m))
+        note_at_verifier(game, secret, bank, m)
     }
 
     fn standing(&self) -> &Book {
