@@ -1,9 +1,8 @@
 // Differences planted on purpose: the comparison has to report each.
 use crate::arithmetic::compare_arithmetic;
 use crate::games::play;
-use extension::Extension;
+use fields::{Mod65537, Mod65537x2};
 use generated::Plan;
-use prime::Mod65537;
 use reference::{Arithmetic, Position, Stop};
 use report::{Call, Refused, Report, Table};
 use std::alloc::Global;
@@ -35,7 +34,7 @@ fn multiplies_otherwise(heap: Global) -> bool {
         w: 5,
         ..Arithmetic::MOD_65537.extended()
     };
-    compare_arithmetic::<Extension<Mod65537>>(&mut table, 5);
+    compare_arithmetic::<Mod65537x2>(&mut table, 5);
     table.report.differing() > 0
 }
 

@@ -1,5 +1,6 @@
 // The four fields, one after the other.
 use crate::rounds::play_field;
+use anyhow::anyhow;
 use field::Field;
 use fields::{FieldTask, with_field};
 use reference::{Arithmetic, Stop};
@@ -20,11 +21,12 @@ impl<'a> FieldTask for Everything<'a> {
 }
 
 // Plays everything over each base field and over its extension.
-pub fn play_all(table: &mut Table) -> Result<(), Stop> {
+pub fn play_all(table: &mut Table) -> anyhow::Result<()> {
     for base in [Arithmetic::MOD_65537, Arithmetic::MERSENNE_31] {
         for field in [base, base.extended()] {
             table.source.field = field;
-            with_field(field.p, field.e, Everything { table: &mut *table }).unwrap_or(Ok(()))?;
+            let played = with_field(field.p, field.e, Everything { table: &mut *table })?;
+            played.map_err(|_| anyhow!("no memory for a game"))?;
         }
     }
     Ok(())

@@ -16,7 +16,7 @@ const SEED: u64 = 20_240_917;
 fn run(rt: &HostRuntime) -> anyhow::Result<()> {
     let heap = rt.alloc();
     let mut table = Table::new(heap, SEED);
-    fields::play_all(&mut table).map_err(|_| anyhow!("no memory for a game"))?;
+    fields::play_all(&mut table)?;
     prints::print_report(rt, &table.report)?;
     let (seen, planted) = see_planted(heap).map_err(|_| anyhow!(
         "no memory for a planted difference"
