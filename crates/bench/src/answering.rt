@@ -1,18 +1,20 @@
 // A host's answers to the squares.
-use crate::sheets::{paper, tray, values_of, written};
-use crate::subjects::sealed_host;
+use crate::memory::{answer_tray, paper, written};
+use crate::subject::told;
 use crate::tally::Tally;
 use board::{Bank, Grid};
 use field::Field;
+use host::Listening;
 use season::Squares;
 use std::alloc::Global;
 
+/// Has a sealed host answer so many times.
 pub fn answer<F: Field>(heap: Global, grid: Grid, times: u32) -> anyhow::Result<Tally> {
     let mut tally = Tally::new();
     let mut counts = vec![in heap; 0i32; grid.cells() as usize]?;
     let mut bank = Bank::new(counts.as_mut_slice());
-    let host = sealed_host::<F>(grid, &mut bank)?;
-    let mut tray = tray::<F>(heap, values_of(grid) + grid.columns as usize)?;
+    let host = told::<Listening<F>>(grid, &mut bank)?.seal();
+    let mut tray = answer_tray::<F>(heap, grid)?;
     let mut paper = paper(heap)?;
     let mut last = 0;
     for turn in 0..times {

@@ -2,27 +2,29 @@
 ghost use Rattle.std.specs.Prelude.{◌≡◌};
 ghost use Rattle.bench.specs.Words.{Names, call_word};
 
-use crate::mistakes::Mistake;
+use crate::mistake::Mistake;
 use std::fmt;
 use std::str::FromStr;
 
+/// A call that is done many times.
 #[derive(Clone, Copy, PartialEq, Eq, Debug)]
 pub enum Call {
-    // A move told to a box.
+    /// A move told to a box.
     BoxNote,
-    // A move told to a host.
+    /// A move told to a host.
     HostNote,
-    // A host's answer to the squares, with its sheet.
+    /// A host's answer to the squares, with its sheet.
     Answer,
-    // A box's judgement of that sheet.
+    /// A box's judgement of that sheet.
     Judge,
-    // The reading of that sheet alone.
+    /// The reading of that sheet alone.
     Read,
-    // The writing of that sheet alone.
+    /// The writing of that sheet alone.
     Write,
 }
 
 impl Call {
+    /// Every call.
     pub const ALL: [Call; 6] = [
         Call::BoxNote,
         Call::HostNote,
@@ -32,6 +34,7 @@ impl Call {
         Call::Write,
     ];
 
+    /// The word that names it.
     pub fn word(self) -> &'static str
         ensures { result.now ≡ call_word self }
     {
@@ -52,7 +55,6 @@ impl FromStr for Call {
     ghost from_str_gives = { Names call_word };
 
     fn from_str(word: &str) -> Result<Call, Mistake> {
-        // A match: of `find` over ALL the check does not prove by itself what the contract says.
         match word {
             "box-note" => Ok(Call::BoxNote),
             "host-note" => Ok(Call::HostNote),

@@ -3,8 +3,12 @@ ghost use Rattle.std.specs.Prelude.{◌≡◌, ◌*◌, ◌<◌, ◌≤◌, ℕ,
 ghost use Rattle.std.specs.Iterator.{endless};
 
 use board::{Grid, Move};
+use generated::Dice;
 
-// The greatest amount, from 1 to 256, at which so many moves are not too heavy; 1 where there is none.
+// The seed of the dice.
+const SEED: u64 = 20_240_917;
+
+/// The greatest amount, from 1 to 256, at which so many moves are not too heavy; 1 where there is none.
 pub fn heaviest(limit: u32, moves: u32) -> u32
     ensures least { 1 ≤ result }
     ensures most { result ≤ 256 }
@@ -14,41 +18,31 @@ pub fn heaviest(limit: u32, moves: u32) -> u32
     limit.checked_div(moves).unwrap_or(256).clamp(1, 256)
 }
 
+/// Moves of one amount, given or taken, anywhere on a board. There is always a next one.
 #[derive(Drop)]
 pub struct Moves {
-    state: u64,
-    cells: u64,
-    amount: u32,
+    dice: Dice,
+    /// How many cells the board has.
+    pub cells: u64,
+    /// The amount.
+    pub amount: u32,
     ghost some: { 0 < cells },
 }
 
 impl Moves {
-    // Moves of the amount, given or taken, anywhere on the board.
+    /// Moves of this amount on this board.
     pub fn new(grid: Grid, amount: u32) -> Moves
         ensures cells { result.cells ≡ grid.rows * grid.columns }
         ensures amount { result.amount ≡ amount }
     {
         Moves {
-            state: 20_240_917,
+            dice: Dice::new(SEED),
             cells: u64::from(grid.cells()),
             amount,
         }
     }
-
-    // The next number below 2^32: the upper half of a product and a sum.
-    fn draw(&mut self) -> u64
-        ensures cells { self.new.cells ≡ self.old.cells }
-        ensures amount { self.new.amount ≡ self.old.amount }
-    {
-        self.state = self
-            .state
-            .wrapping_mul(6_364_136_223_846_793_005)
-            .wrapping_add(1_442_695_040_888_963_407);
-        self.state >> 32
-    }
 }
 
-// There is always a next move.
 impl Iterator for Moves {
     type Item = Move;
 
@@ -59,7 +53,7 @@ impl Iterator for Moves {
     ghost remaining = { λ _. endless };
 
     fn next(&mut self) -> Option<Move> {
-        let drawn = self.draw();
+        let drawn = self.dice.next();
         let size = i64::from(self.amount);
         Some(Move {
             cell: drawn / 2 % self.cells,

@@ -1,6 +1,6 @@
-// Readings of the sheet of an honest host. Judgements and writings have the same shape and texts of their own: a shared loop would have to take the call as a
-// closure, no plainer than the loop.
-use crate::sheets::{stated, tray};
+// Readings of the sheet of an honest host.
+use crate::memory::tray;
+use crate::statement::Statement;
 use crate::tally::Tally;
 use board::Grid;
 use field::Field;
@@ -9,9 +9,10 @@ use season::Squares;
 use sheet::read_sheet;
 use std::alloc::Global;
 
+/// Reads the sheet so many times.
 pub fn read<F: Field>(heap: Global, grid: Grid, times: u32) -> anyhow::Result<Tally> {
     let mut tally = Tally::new();
-    let stated = stated::<F>(heap, grid)?;
+    let stated = Statement::<F>::new(heap, grid)?;
     let terms = terms_of::<F, Squares>(&Squares, grid);
     let mut tray = tray::<F>(heap, stated.values.len())?;
     for turn in 0..times {

@@ -1,12 +1,13 @@
 // A line for each work.
-use crate::arguments::Work;
 use crate::calls::Call;
 use crate::doing::done;
-use crate::fields::FieldName;
+use crate::field_name::FieldName;
+use crate::tally::Tally;
+use crate::work::Work;
 use board::Grid;
 use std::alloc::Global;
 
-// Does the work, and prints what it was, how many calls were refused, and the checksum.
+/// Does the work, and prints what it was, how many calls were refused, and the checksum.
 pub fn report(rt: &impl Print, heap: Global, work: Work) -> anyhow::Result<()> {
     let Work {
         field,
@@ -16,16 +17,14 @@ pub fn report(rt: &impl Print, heap: Global, work: Work) -> anyhow::Result<()> {
     } = work;
     let rows = grid.rows;
     let columns = grid.columns;
-    let tally = done(heap, work)?;
-    let refused = tally.refused;
-    let checksum = tally.checksum;
+    let Tally { checksum, refused } = done(heap, work)?;
     println!(rt;
         "{field} {call} {rows} {columns} {times}: {refused} refused, checksum {checksum:016x}"
     )?;
     Ok(())
 }
 
-// Every call over every field, three times on a board of 4 rows and 16 columns.
+/// Every call over every field, three times on a board of 4 rows and 16 columns.
 pub fn report_all(rt: &impl Print, heap: Global) -> anyhow::Result<()> {
     let grid = Grid::new(4, 16)?;
     for field in FieldName::ALL {

@@ -1,5 +1,6 @@
-// Writings of the sheet of an honest host. The loop is written out: see the readings.
-use crate::sheets::{paper, stated, written};
+// Writings of the sheet of an honest host.
+use crate::memory::{paper, written};
+use crate::statement::Statement;
 use crate::tally::Tally;
 use board::Grid;
 use field::Field;
@@ -8,9 +9,10 @@ use season::Squares;
 use std::alloc::Global;
 use writer::write_sheet;
 
+/// Writes the sheet so many times.
 pub fn write<F: Field>(heap: Global, grid: Grid, times: u32) -> anyhow::Result<Tally> {
     let mut tally = Tally::new();
-    let stated = stated::<F>(heap, grid)?;
+    let stated = Statement::<F>::new(heap, grid)?;
     let terms = terms_of::<F, Squares>(&Squares, grid);
     let mut paper = paper(heap)?;
     let mut last = 0;

@@ -1,58 +1,61 @@
 // Single operations of a field against plain arithmetic.
-use crate::convert::element;
-use crate::table::Table;
-use field::Field;
+use field::{Field, INVERSES};
 use reference::Element;
+use report::{Report, Table, element, parts};
 
-// Holds an element to a pair: two comparisons, low and high apart, since their number is printed.
-fn compare<F: Field>(table: &mut Table, what: &'static str, found: F, wanted: Element) {
-    table.report.same(what, u64::from(found.low()), wanted.low);
-    table
-        .report
-        .same(what, u64::from(found.high()), wanted.high);
+// Whole numbers around zero, around the rows and around both characteristics.
+const NUMBERS: [i32; 10] = [
+    -2_147_483_647,
+    -65_538,
+    -65_537,
+    -1,
+    0,
+    1,
+    65_536,
+    65_537,
+    2_147_483_646,
+    2_147_483_647,
+];
+
+// Holds an element to a pair, part by part.
+fn compare<F: Field>(report: &mut Report, what: &'static str, found: F, wanted: Element) {
+    let found = parts(found);
+    report.same(what, found.low, wanted.low);
+    report.same(what, found.high, wanted.high);
 }
 
 // Sums, products, opposites, inverses and sameness of two elements.
 fn compare_two<F: Field>(table: &mut Table, a: Element, b: Element) {
-    let field = table.field;
+    let field = table.source.field;
+    let report = &mut table.report;
     let x: F = element(a);
     let y: F = element(b);
-    compare(table, "a sum", x.sum(y), field.sum(a, b));
-    compare(table, "a product", x.product(y), field.product(a, b));
+    compare(report, "a sum", x + y, field.sum(a, b));
+    compare(report, "a product", x * y, field.product(a, b));
     compare(
-        table,
+        report,
         "an opposite",
-        x.opposite(),
-        field.difference(Element::zero(), a),
+        -x,
+        field.difference(Element::ZERO, a),
     );
-    table.report.holds("sameness", (x == y) == (a == b));
+    report.holds("sameness", (x == y) == (a == b));
     match x.inverse() {
-        Some(inverse) => compare(table, "an inverse", inverse, field.inverse(a)),
-        None => table.report.holds("no inverse", a == Element::zero()),
+        Some(inverse) => compare(report, "an inverse", inverse, field.inverse(a)),
+        None => report.holds("no inverse", a == Element::ZERO),
     }
 }
 
-// Images of whole numbers, and the table of inverses.
+// Images of whole numbers, and the inverses at hand.
 fn compare_numbers<F: Field>(table: &mut Table) {
-    let field = table.field;
-    for n in [
-        -2_147_483_647,
-        -65_538,
-        -65_537,
-        -1,
-        0,
-        1,
-        65_536,
-        65_537,
-        2_147_483_646,
-        2_147_483_647,
-    ] {
-        compare(table, "an image", F::image(n), field.image(i64::from(n)));
+    let field = table.source.field;
+    let report = &mut table.report;
+    for n in NUMBERS {
+        compare(report, "an image", F::image(n), field.image(i64::from(n)));
     }
-    for n in 1u32..253 {
+    for n in 1..=INVERSES {
         let wanted = field.inverse(field.image(i64::from(n)));
         compare(
-            table,
+            report,
             "an inverse of a whole number",
             F::inverse_of(n),
             wanted,
@@ -60,14 +63,13 @@ fn compare_numbers<F: Field>(table: &mut Table) {
     }
 }
 
-// Compares the operations of one field on generated elements.
+/// Compares the operations of one field on so many pairs of generated elements, and on each of them twice.
 pub fn compare_arithmetic<F: Field>(table: &mut Table, times: u64) {
     compare_numbers::<F>(table);
-    let zero = Element::zero();
-    compare_two::<F>(table, zero, zero);
+    compare_two::<F>(table, Element::ZERO, Element::ZERO);
     for _ in 0..times {
-        let a = table.any_element();
-        let b = table.any_element();
+        let a = table.source.any_element();
+        let b = table.source.any_element();
         compare_two::<F>(table, a, b);
         compare_two::<F>(table, a, a);
     }

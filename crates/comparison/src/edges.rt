@@ -1,16 +1,38 @@
 // The refusals of memory that is too short, and of counts that no moves come to.
-use crate::answers::Room;
-use crate::both::Listening;
-use crate::hosts::HostPair;
-use crate::inquiry::Inquiry;
-use crate::questions::{BACKWARD, BACKWARD_ASK};
-use crate::sealed::Sealed;
-use crate::table::Table;
-use board::Move;
+use crate::backward::{BACKWARD, BACKWARD_ASK};
+use crate::sealing::seal;
 use field::Field;
-use reference::{Ask, Element, Sheet, Stop};
+use inquiry::{Inquiry, Room, Sealed};
+use pairs::{HostPair, Listening};
+use reference::{Ask, Element, GREATEST_DEGREE, Move, Sheet, Stop};
+use report::Table;
 use season::Squares;
 use std::alloc::AllocError;
+
+// Trays and papers of all lengths around those that the squares need on two rows and eight columns.
+const ROOMS: [Room; 6] = [
+    Room {
+        tray: 11,
+        paper: 9216,
+    },
+    Room {
+        tray: 10,
+        paper: 9216,
+    },
+    Room {
+        tray: 11,
+        paper: 9215,
+    },
+    Room {
+        tray: 10,
+        paper: 9215,
+    },
+    Room { tray: 0, paper: 0 },
+    Room {
+        tray: 20,
+        paper: 9300,
+    },
+];
 
 // Puts a count into a cell, behind the back of both hosts.
 fn set_count<F: Field>(host: &mut HostPair<F>, cell: usize, count: i32) {
@@ -24,13 +46,13 @@ fn set_count<F: Field>(host: &mut HostPair<F>, cell: usize, count: i32) {
 
 // Moves at a cell whose count is at the limit or beyond it, and elsewhere.
 fn note_at_limit<F: Field>(table: &mut Table, host: &mut HostPair<F>) -> Result<(), AllocError> {
-    let limit = i32::try_from(table.field.limit).unwrap_or(0);
-    let least = limit.wrapping_neg();
+    let limit = i32::try_from(table.source.field.limit).unwrap_or(0);
+    let least = limit.saturating_neg();
     for count in [
         limit,
-        limit.wrapping_add(1),
+        limit.saturating_add(1),
         least,
-        least.wrapping_sub(1),
+        least.saturating_sub(1),
         i32::MIN,
     ] {
         set_count(host, 1, count);
@@ -42,17 +64,9 @@ fn note_at_limit<F: Field>(table: &mut Table, host: &mut HostPair<F>) -> Result<
     Ok(())
 }
 
-// Answers with trays and papers of all lengths around those needed.
+// Answers in rooms that are large enough or not.
 fn answer_over<F: Field>(table: &mut Table, sealed: &mut Sealed<F>) -> Result<(), AllocError> {
-    for (tray, paper) in [
-        (11, 9216),
-        (10, 9216),
-        (11, 9215),
-        (10, 9215),
-        (0, 0),
-        (20, 9300),
-    ] {
-        let room = Room { tray, paper };
+    for room in ROOMS {
         let _ = Inquiry::new(table, sealed, &Squares, Ask::Squares).compare_answer(room)?;
         let _ = Inquiry::new(table, sealed, &BACKWARD, BACKWARD_ASK).compare_answer(room)?;
     }
@@ -70,16 +84,21 @@ fn judge_over<F: Field>(table: &mut Table, sealed: &mut Sealed<F>) -> Result<(),
 
 // Writes as many values as a sheet may have, and one more; with paper enough, and one byte less.
 fn write_long<F: Field>(table: &mut Table, sealed: &mut Sealed<F>) -> Result<(), AllocError> {
-    let most = table.field.p.saturating_sub(1);
-    let high = if table.field.e == 1 { 0 } else { most };
-    let element = Element { low: most, high };
+    let heap = table.source.heap;
+    let field = table.source.field;
+    let greatest = u64::from(field.p).saturating_sub(1);
+    let high = if field.e == 1 { 0 } else { greatest };
+    let element = Element {
+        low: greatest,
+        high,
+    };
     let longest = Sheet {
         claim: i64::MIN,
-        values: vec![in table.heap; element; 253]?,
+        values: vec![in heap; element; GREATEST_DEGREE as usize + 1]?,
     };
     let longer = Sheet {
         claim: i64::MAX,
-        values: vec![in table.heap; element; 254]?,
+        values: vec![in heap; element; GREATEST_DEGREE as usize + 2]?,
     };
     let mut inquiry = Inquiry::new(table, sealed, &Squares, Ask::Squares);
     for paper in [9216, 9215, 9300] {
@@ -98,17 +117,19 @@ fn ask_short<F: Field>(table: &mut Table, sealed: &mut Sealed<F>) -> Result<(), 
     answer_over(table, sealed)?;
     judge_over(table, sealed)?;
     // One count so large that all together are beyond the limit.
-    sealed.counts.push(i32::MIN)?;
-    sealed.plain_counts.push(i64::from(i32::MIN))?;
+    sealed.host.counts.push(i32::MIN)?;
+    sealed.host.plain.push(i64::from(i32::MIN))?;
     answer_over(table, sealed)
 }
 
-// All these on a board of two rows and eight columns, and moves with banks that are one cell short.
+/// Moves, questions and sheets on a board of two rows and eight columns, with memory that is just enough or too short,
+/// and with counts at the limit or beyond it.
 pub fn play_edges<F: Field>(table: &mut Table) -> Result<(), Stop> {
     table.report.next_game();
-    let counts = table.any_counts(16)?;
-    let sums = table.any_elements(8)?;
-    let point = table.any_element();
+    let source = &mut table.source;
+    let counts = source.any_counts(16)?;
+    let sums = source.any_elements(8)?;
+    let point = source.any_element();
     let Some(mut both) = Listening::<F>::open(table, 2, 8, point, counts, sums)? else {
         return Ok(());
     };
@@ -117,6 +138,6 @@ pub fn play_edges<F: Field>(table: &mut Table) -> Result<(), Stop> {
     note_at_limit(table, &mut both.host)?;
     both.host.note_short(table, m)?;
     both.verifier.note_short(table, m)?;
-    ask_short(table, &mut both.seal())?;
+    ask_short(table, &mut seal(both))?;
     Ok(())
 }

@@ -1,31 +1,41 @@
 // Differences planted on purpose: the comparison has to report each.
 use crate::arithmetic::compare_arithmetic;
-use crate::call::Call;
-use crate::games::{Plan, play};
-use crate::outcome::Refused;
-use crate::report::Report;
-use crate::table::Table;
-use extension::Extension;
-use prime::Mod65537;
+use crate::games::play;
+use fields::{Mod65537, Mod65537x2};
+use generated::Plan;
 use reference::{Arithmetic, Position, Stop};
+use report::{Call, Refused, Report, Table};
 use std::alloc::Global;
 
 const PLANTED: &str = "planted";
 
+// A game of some moves and questions.
+const PLAN: Plan = Plan {
+    rows: 3,
+    columns: 8,
+    spare: 1,
+    moves: 20,
+    questions: 6,
+    sheets: 1,
+};
+
 // Whether a game differs in which the reference is told another field than the product's.
 fn differs(heap: Global, field: Arithmetic) -> Result<bool, Stop> {
     let mut table = Table::new(heap, 99);
-    table.field = field;
-    let plan = Plan {
-        rows: 3,
-        columns: 8,
-        spare: 1,
-        moves: 20,
-        questions: 6,
-        sheets: 1,
-    };
-    play::<Mod65537>(&mut table, plan)?;
+    table.source.field = field;
+    play::<Mod65537>(&mut table, PLAN)?;
     Ok(table.report.differing() > 0)
+}
+
+// Whether the products of an extension differ from those with another t × t.
+fn multiplies_otherwise(heap: Global) -> bool {
+    let mut table = Table::new(heap, 99);
+    table.source.field = Arithmetic {
+        w: 5,
+        ..Arithmetic::MOD_65537.extended()
+    };
+    compare_arithmetic::<Mod65537x2>(&mut table, 5);
+    table.report.differing() > 0
 }
 
 // A refusal of a sheet at a place of its second line.
@@ -36,8 +46,8 @@ fn refused_at(place: u64) -> Refused {
     }
 }
 
-// Differences handed to a report directly, each to a report of its own: how many reports count one, and how many there are.
-fn counted(heap: Global) -> (u64, u64) {
+// Differences handed to a report directly, each to a report of its own: whether each report has one.
+fn counted(heap: Global) -> [bool; 6] {
     let mut less = Report::new(heap);
     less.same(PLANTED, 1, 2);
     let mut more = Report::new(heap);
@@ -55,40 +65,31 @@ fn counted(heap: Global) -> (u64, u64) {
     );
     let mut number = Report::new(heap);
     number.number::<u64>(PLANTED, &Ok(1), Err(1));
-    let all = [
-        less.differing(),
-        more.differing(),
-        test.differing(),
-        count.differing(),
-        place.differing(),
-        number.differing(),
-    ];
-    let seen = all.iter().filter(|differing| **differing > 0).count();
-    (seen as u64, all.len() as u64)
+    [less, more, test, count, place, number].map(|report| report.differing() > 0)
 }
 
-// How many of the planted differences are reported, of how many.
+/// How many of the planted differences are reported, and of how many.
 pub fn see_planted(heap: Global) -> Result<(u64, u64), Stop> {
-    let mut table = Table::new(heap, 99);
-    let field = table.field;
-    let mut seen = 0u64;
-    for other in [
-        Arithmetic { p: 65_539, ..field },
-        Arithmetic { e: 2, ..field },
-        Arithmetic {
-            limit: 255,
-            ..field
-        },
-    ] {
-        seen = seen.wrapping_add(u64::from(differs(heap, other)?));
-    }
-    table.field = Arithmetic {
-        e: 2,
-        w: 5,
-        ..field
-    };
-    compare_arithmetic::<Extension<Mod65537>>(&mut table, 5);
-    seen = seen.wrapping_add(u64::from(table.report.differing() > 0));
-    let (reported, planted) = counted(heap);
-    Ok((seen.wrapping_add(reported), planted.wrapping_add(4)))
+    let field = Arithmetic::MOD_65537;
+    let [less, more, test, count, place, number] = counted(heap);
+    let all = [
+        differs(heap, Arithmetic { p: 65_539, ..field })?,
+        differs(heap, field.extended())?,
+        differs(
+            heap,
+            Arithmetic {
+                limit: 255,
+                ..field
+            },
+        )?,
+        multiplies_otherwise(heap),
+        less,
+        more,
+        test,
+        count,
+        place,
+        number,
+    ];
+    let seen = all.iter().filter(|seen| **seen).count();
+    Ok((seen as u64, all.len() as u64))
 }

@@ -1,28 +1,33 @@
 // The four fields, one after the other.
 use crate::rounds::play_field;
-use comparison::{MOD_65537, Table};
-use extension::Extension;
-use field::BaseField;
-use prime::{Mersenne31, Mod65537};
+use anyhow::anyhow;
+use field::Field;
+use fields::{FieldTask, with_field};
 use reference::{Arithmetic, Stop};
+use report::Table;
 
-// The other base field, as the reference is told it: its constants in plain numbers.
-const MERSENNE31: Arithmetic = Arithmetic {
-    p: 2_147_483_647,
-    e: 1,
-    w: 2_147_483_646,
-    limit: 46_340,
-};
-
-// Everything over a base field and over its extension.
-fn play_pair<B: BaseField>(table: &mut Table, field: Arithmetic) -> Result<(), Stop> {
-    table.field = field;
-    play_field::<B>(table)?;
-    table.field = Arithmetic { e: 2, ..field };
-    play_field::<Extension<B>>(table)
+// Everything that is played over one field.
+#[derive(Drop)]
+struct Everything<'a> {
+    table: &'a mut Table,
 }
 
-pub fn play_all(table: &mut Table) -> Result<(), Stop> {
-    play_pair::<Mod65537>(table, MOD_65537)?;
-    play_pair::<Mersenne31>(table, MERSENNE31)
+impl<'a> FieldTask for Everything<'a> {
+    type Out = Result<(), Stop>;
+
+    fn run<F: Field>(self) -> Result<(), Stop> {
+        play_field::<F>(self.table)
+    }
+}
+
+// Plays everything over each base field and over its extension.
+pub fn play_all(table: &mut Table) -> anyhow::Result<()> {
+    for base in [Arithmetic::MOD_65537, Arithmetic::MERSENNE_31] {
+        for field in [base, base.extended()] {
+            table.source.field = field;
+            let played = with_field(field.p, field.e, Everything { table: &mut *table })?;
+            played.map_err(|_| anyhow!("no memory for a game"))?;
+        }
+    }
+    Ok(())
 }

@@ -1,28 +1,32 @@
-// Plays the worked cases and thousands of generated games against the product and against the reference, compares
-// everything that both say and leave behind, and prints what was compared. Any difference fails the run.
+//! A program that plays the worked board and thousands of generated games at the product and at the reference, compares
+//! everything that both say and leave behind, and prints what was compared. Any difference fails the run.
 #![tactic(auto)]
-
-use anyhow::anyhow;
 
 mod fields;
 mod prints;
 mod rounds;
 
+use anyhow::{anyhow, ensure};
+use comparison::see_planted;
+use report::Table;
+
+// The seed of the dice.
+const SEED: u64 = 20_240_917;
+
 fn run(rt: &HostRuntime) -> anyhow::Result<()> {
     let heap = rt.alloc();
-    let mut table = comparison::Table::new(heap, 20_240_917);
-    fields::play_all(&mut table).map_err(|_| anyhow!("no memory for a game"))?;
+    let mut table = Table::new(heap, SEED);
+    fields::play_all(&mut table)?;
     prints::print_report(rt, &table.report)?;
-    let (seen, planted) = comparison::see_planted(heap).map_err(|_| anyhow!(
+    let (seen, planted) = see_planted(heap).map_err(|_| anyhow!(
         "no memory for a planted difference"
     ))?;
     println!(rt; "planted differences: {planted}, reported: {seen}")?;
-    if seen != planted {
-        return Err(anyhow!("a planted difference was not reported"));
-    }
-    if table.report.differing() > 0 {
-        return Err(anyhow!("product and reference differ"));
-    }
+    ensure!(seen == planted, "a planted difference was not reported");
+    ensure!(
+        table.report.differing() == 0,
+        "product and reference differ"
+    );
     Ok(())
 }
 

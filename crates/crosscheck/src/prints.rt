@@ -1,6 +1,6 @@
 // The report as text.
-use anyhow::anyhow;
-use comparison::{Call, Report};
+use anyhow::ensure;
+use report::{Call, Report};
 use std::io;
 
 // The numbers of all refusals.
@@ -8,12 +8,14 @@ const NUMBERS: [u64; 19] = [
     1, 2, 3, 10, 12, 13, 20, 21, 22, 30, 31, 40, 41, 42, 43, 44, 45, 50, 51,
 ];
 
+// Numbers of refusals are below this, those outside the table too.
+const BEYOND: u64 = 64;
+
 // One call: how often it was granted, and how often it came to each refusal.
 fn print_call(rt: &impl Print, report: &Report, call: Call) -> io::Result<()> {
     let granted = report.granted(call);
     print!(rt; "{call}: {granted} granted")?;
-    // Not NUMBERS: a number outside the table is to be printed too.
-    for number in 1..63 {
+    for number in 1..BEYOND {
         let count = report.refused(call, number);
         if count > 0 {
             print!(rt; ", {number}: {count}")?;
@@ -22,14 +24,7 @@ fn print_call(rt: &impl Print, report: &Report, call: Call) -> io::Result<()> {
     println!(rt; "")
 }
 
-fn print_calls(rt: &impl Print, report: &Report) -> io::Result<()> {
-    for call in Call::ALL {
-        print_call(rt, report, call)?;
-    }
-    Ok(())
-}
-
-// Whether a refusal's number came, from any call.
+// How often a refusal's number came, from any call, is not nothing.
 fn came(report: &Report, number: u64) -> bool {
     Call::ALL
         .iter()
@@ -45,9 +40,7 @@ fn print_missing(rt: &impl Print, report: &Report) -> anyhow::Result<()> {
             complete = false;
         }
     }
-    if !complete {
-        return Err(anyhow!("not every refusal came"));
-    }
+    ensure!(complete, "not every refusal came");
     println!(rt; "every refusal of the table came at least once")?;
     Ok(())
 }
@@ -63,8 +56,11 @@ fn print_differences(rt: &impl Print, report: &Report) -> io::Result<()> {
     println!(rt; "{games} games, {compared} comparisons, {differing} differences")
 }
 
+// What each call came to, what was compared, and whether every refusal came.
 pub fn print_report(rt: &impl Print, report: &Report) -> anyhow::Result<()> {
-    print_calls(rt, report)?;
+    for call in Call::ALL {
+        print_call(rt, report, call)?;
+    }
     print_differences(rt, report)?;
     print_missing(rt, report)
 }

@@ -1,16 +1,46 @@
 // Everything that is played over one field.
-use comparison::{
-    Plan, Table, compare_arithmetic, fill_weight, open_grid, play, play_edges, play_worked,
-};
+use comparison::{compare_arithmetic, fill_weight, open_grid, play, play_edges, play_worked};
 use field::Field;
+use generated::Plan;
 use reference::{Element, Stop};
+use report::Table;
+
+// The points of the worked board: at rows, near them and far from them.
+const POINTS: [u64; 6] = [0, 1, 2, 3, 5, 300];
+
+// Grids that are just allowed, by their rows and columns.
+const ALLOWED: [(u64, u64); 3] = [(64, 8), (1, 8), (1, 16)];
+
+// Grids that are not.
+const NOT_ALLOWED: [(u64, u64); 7] = [
+    (0, 8),
+    (65, 8),
+    (2, 0),
+    (2, 12),
+    (2, 7),
+    (2, 1032),
+    (u64::MAX, u64::MAX),
+];
+
+// Boards of many shapes, by their rows and columns.
+const SHAPES: [(u64, u64); 9] = [
+    (1, 1024),
+    (2, 512),
+    (7, 64),
+    (16, 24),
+    (33, 8),
+    (40, 40),
+    (64, 8),
+    (64, 16),
+    (11, 200),
+];
 
 // The worked board at several points; in an extension at t too.
 fn play_worked_points<F: Field>(table: &mut Table) -> Result<(), Stop> {
-    for low in [0, 1, 2, 3, 5, 300] {
-        play_worked::<F>(table, Element { low, high: 0 })?;
+    for low in POINTS {
+        play_worked::<F>(table, Element::whole(low))?;
     }
-    if table.field.e == 2 {
+    if table.source.field.e == 2 {
         play_worked::<F>(table, Element { low: 0, high: 1 })?;
     }
     Ok(())
@@ -18,87 +48,33 @@ fn play_worked_points<F: Field>(table: &mut Table) -> Result<(), Stop> {
 
 // Grids at their limits.
 fn open_grids<F: Field>(table: &mut Table) -> Result<(), Stop> {
-    for (rows, columns) in [(64, 8), (1, 8), (1, 16)] {
+    for (rows, columns) in ALLOWED {
         open_grid::<F>(table, rows, columns, true)?;
     }
-    for (rows, columns) in [
-        (0, 8),
-        (65, 8),
-        (2, 0),
-        (2, 12),
-        (2, 7),
-        (2, 1032),
-        (u64::MAX, u64::MAX),
-    ] {
+    for (rows, columns) in NOT_ALLOWED {
         open_grid::<F>(table, rows, columns, false)?;
     }
     Ok(())
 }
 
-// Many games on small boards.
-fn play_small<F: Field>(table: &mut Table, times: u64) -> Result<(), Stop> {
-    for _ in 0..times {
-        let rows = table.dice.below(6);
-        let columns = table.dice.below(3);
-        let plan = Plan {
-            rows: rows.saturating_add(1),
-            columns: columns.saturating_add(1).saturating_mul(8),
-            spare: table.dice.between(-1, 3),
-            moves: table.dice.below(40),
-            questions: 5,
-            sheets: 3,
-        };
+// Generated games: so many on small boards, some on boards of many shapes, one on the largest.
+fn play_games<F: Field>(table: &mut Table, small: u64) -> Result<(), Stop> {
+    for _ in 0..small {
+        let plan = table.source.any_plan();
         play::<F>(table, plan)?;
     }
-    Ok(())
-}
-
-// Some games on boards of many shapes.
-fn play_shapes<F: Field>(table: &mut Table) -> Result<(), Stop> {
-    for (rows, columns) in [
-        (1, 1024),
-        (2, 512),
-        (7, 64),
-        (16, 24),
-        (33, 8),
-        (40, 40),
-        (64, 8),
-        (64, 16),
-        (11, 200),
-    ] {
-        let plan = Plan {
-            rows,
-            columns,
-            spare: 2,
-            moves: 60,
-            questions: 3,
-            sheets: 2,
-        };
-        play::<F>(table, plan)?;
+    for (rows, columns) in SHAPES {
+        play::<F>(table, Plan::shaped(rows, columns))?;
     }
-    Ok(())
+    play::<F>(table, Plan::LARGEST)
 }
 
-// A game on the largest board.
-fn play_largest<F: Field>(table: &mut Table) -> Result<(), Stop> {
-    let plan = Plan {
-        rows: 64,
-        columns: 1024,
-        spare: 0,
-        moves: 100,
-        questions: 1,
-        sheets: 1,
-    };
-    play::<F>(table, plan)
-}
-
+// Everything, over one field.
 pub fn play_field<F: Field>(table: &mut Table) -> Result<(), Stop> {
     compare_arithmetic::<F>(table, 500);
     play_worked_points::<F>(table)?;
     play_edges::<F>(table)?;
     open_grids::<F>(table)?;
     fill_weight::<F>(table)?;
-    play_small::<F>(table, 250)?;
-    play_shapes::<F>(table)?;
-    play_largest::<F>(table)
+    play_games::<F>(table, 250)
 }

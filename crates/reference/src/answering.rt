@@ -1,17 +1,12 @@
 // Answering a question at a sealed host.
+use crate::answered::Answered;
 use crate::ask::Ask;
 use crate::element::Element;
 use crate::front::put_front;
 use crate::game::Game;
+use crate::numbers::PAPER;
 use crate::refusal::Refusal;
 use crate::stop::Stop;
-
-// The claim and the length of the sheet.
-#[derive(Clone, Copy, PartialEq, Eq, Debug)]
-pub struct Answered {
-    pub claim: i64,
-    pub length: u64,
-}
 
 // The absolute counts of the board, added.
 fn absolute_sum(board: &[i64]) -> u64 {
@@ -19,13 +14,13 @@ fn absolute_sum(board: &[i64]) -> u64 {
 }
 
 impl Game {
-    // The counts of the board, if a bank has them all; and then the other refusals of an answer, in order.
+    // The counts of the board, if a bank has them all, and no other refusal of an answer is met.
     fn test<'a>(
         self,
         bank: &'a [i64],
         ask: Ask,
         tray: u64,
-        paper: u64,
+        paper: usize,
     ) -> Result<&'a [i64], Refusal> {
         let board = bank
             .get(0..self.at.cells() as usize)
@@ -39,14 +34,14 @@ impl Game {
         if tray < ask.size(self.at).saturating_add(self.at.columns) {
             return Err(Refusal::TrayShort);
         }
-        if paper < 9216 {
+        if paper < PAPER {
             return Err(Refusal::PaperShort);
         }
         Ok(board)
     }
 
-    // Answers a question: the honest values, which are the rule on the columns at 0 to the degree, and the columns at
-    // the degree into the tray, the sheet onto the paper.
+    /// Answers a question: the honest values, which are the rule on the columns at 0 to the degree, and the columns at
+    /// the degree go into the tray, the sheet onto the paper. Refused with 12, 13, 20, 21, 22, and nothing changes.
     pub fn answer(
         self,
         bank: &[i64],
@@ -54,7 +49,7 @@ impl Game {
         tray: &mut [Element],
         paper: &mut [u8],
     ) -> Result<Answered, Stop> {
-        let board = self.test(bank, ask, tray.len() as u64, paper.len() as u64)?;
+        let board = self.test(bank, ask, tray.len() as u64, paper.len())?;
         let mut values = Vec::new(self.heap);
         let mut columns = Vec::new(self.heap);
         for j in 0..ask.size(self.at) {

@@ -1,19 +1,44 @@
-// Residues modulo p, and pairs of them with t × t = w. One code for every field: p, e and w are values.
+// Residues modulo p, and pairs of them with t × t = w. One code serves every field: p, e and w are values.
 use crate::element::Element;
 
-// A field: the characteristic p, the degree e, the residue w that t × t comes to, and the limit of weights.
-#[derive(Clone, Copy)]
+/// A field in plain numbers. Its primes are below 2^31, so no sum and no product of residues wraps.
+#[derive(Clone, Copy, PartialEq, Eq, Debug)]
 pub struct Arithmetic {
-    pub p: u64,
-    pub e: u64,
-    pub w: u64,
-    pub limit: u64,
+    /// The characteristic.
+    pub p: u32,
+    /// The degree, 1 or 2.
+    pub e: u32,
+    /// The residue that t × t comes to.
+    pub w: u32,
+    /// The limit of weights.
+    pub limit: u32,
 }
 
-// Every residue is below 2^31, so none of these sums and products wraps.
 impl Arithmetic {
+    /// The residues modulo 65,537.
+    pub const MOD_65537: Arithmetic = Arithmetic {
+        p: 65_537,
+        e: 1,
+        w: 3,
+        limit: 256,
+    };
+
+    /// The residues modulo 2,147,483,647.
+    pub const MERSENNE_31: Arithmetic = Arithmetic {
+        p: 2_147_483_647,
+        e: 1,
+        w: 2_147_483_646,
+        limit: 46_340,
+    };
+
+    /// The pairs of this field's residues.
+    pub fn extended(self) -> Arithmetic {
+        Arithmetic { e: 2, ..self }
+    }
+
+    /// What a number leaves, divided by p.
     pub fn residue(self, n: u64) -> u64 {
-        n.checked_rem(self.p).unwrap_or(0)
+        n.checked_rem(u64::from(self.p)).unwrap_or(0)
     }
 
     fn times(self, a: u64, b: u64) -> u64 {
@@ -24,42 +49,44 @@ impl Arithmetic {
         self.residue(a.wrapping_add(b))
     }
 
-    // The element that a whole number stands for.
+    fn minus(self, a: u64, b: u64) -> u64 {
+        self.plus(a, u64::from(self.p).wrapping_sub(b))
+    }
+
+    /// The element that a whole number stands for.
     pub fn image(self, n: i64) -> Element {
         let size = self.residue(n.unsigned_abs());
-        if n < 0 {
-            Element::whole(self.residue(self.p.wrapping_sub(size)))
-        } else {
-            Element::whole(size)
-        }
+        Element::whole(if n < 0 { self.minus(0, size) } else { size })
     }
 
-    pub fn sum(self, a: Element, b: Element) -> Element {
+    /// x + y.
+    pub fn sum(self, x: Element, y: Element) -> Element {
         Element {
-            low: self.plus(a.low, b.low),
-            high: self.plus(a.high, b.high),
+            low: self.plus(x.low, y.low),
+            high: self.plus(x.high, y.high),
         }
     }
 
-    pub fn difference(self, a: Element, b: Element) -> Element {
+    /// x − y.
+    pub fn difference(self, x: Element, y: Element) -> Element {
         Element {
-            low: self.plus(a.low, self.p.wrapping_sub(b.low)),
-            high: self.plus(a.high, self.p.wrapping_sub(b.high)),
+            low: self.minus(x.low, y.low),
+            high: self.minus(x.high, y.high),
         }
     }
 
-    // (a + b t)(c + d t) = (a c + w b d) + (a d + b c) t
+    /// x × y: (a + b t)(c + d t) = (a c + w b d) + (a d + b c) t.
     pub fn product(self, x: Element, y: Element) -> Element {
-        let squared = self.times(self.w, self.times(x.high, y.high));
+        let squared = self.times(u64::from(self.w), self.times(x.high, y.high));
         Element {
             low: self.plus(self.times(x.low, y.low), squared),
             high: self.plus(self.times(x.low, y.high), self.times(x.high, y.low)),
         }
     }
 
-    // x multiplied n times. A loop and no chain, since each step needs both the square and the rest of the one before.
+    /// x multiplied n times: the squares of squares at the binary digits of n.
     pub fn power(self, x: Element, n: u64) -> Element {
-        let mut all = Element::one();
+        let mut all = Element::ONE;
         let mut square = x;
         let mut rest = n;
         while rest > 0 {
@@ -72,13 +99,17 @@ impl Arithmetic {
         all
     }
 
-    // One over x: a field of q elements has x^(q − 1) = 1 for every x but zero.
+    /// One over x, and zero at zero: in a field of q elements x^(q − 1) is 1 for every other x.
     pub fn inverse(self, x: Element) -> Element {
-        let q = if self.e == 1 {
-            self.p
-        } else {
-            self.p.wrapping_mul(self.p)
-        };
+        let p = u64::from(self.p);
+        let q = if self.e == 1 { p } else { p.wrapping_mul(p) };
         self.power(x, q.wrapping_sub(2))
+    }
+
+    /// The elements of these added, from the first on.
+    pub fn total(self, several: &[Element]) -> Element {
+        several
+            .iter()
+            .fold(Element::ZERO, |all, x| self.sum(all, *x))
     }
 }

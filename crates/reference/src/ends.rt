@@ -1,5 +1,4 @@
-// Both ends over banks of the caller's: open and note. They stay two of each, since they differ in the grid's part that a
-// bank needs, and in all that a move does; what is alike is in `Standing` and `fill_front`.
+// Both ends over banks of the caller's: open and note.
 use crate::arithmetic::Arithmetic;
 use crate::element::Element;
 use crate::front::fill_front;
@@ -9,31 +8,31 @@ use crate::refusal::Refusal;
 use crate::standing::Standing;
 use crate::stop::Stop;
 
-// A host on a board: a count for each cell, all zero.
+/// Opens a host on a board: a count for each cell, all zero. Refused with 10, 12.
 pub fn open_host(
     field: Arithmetic,
     rows: u64,
     columns: u64,
     bank: &mut [i64],
 ) -> Result<Standing, Refusal> {
-    let standing = Standing::open(rows, columns, field.limit)?;
+    let standing = Standing::open(rows, columns, u64::from(field.limit))?;
     fill_front(bank, standing.cells(), 0).ok_or(Refusal::BankShort)?;
     Ok(standing)
 }
 
-// A box on a board: an element for each column, all zero.
+/// Opens a box on a board: an element for each column, all zero. Refused with 10, 12.
 pub fn open_verifier(
     field: Arithmetic,
     rows: u64,
     columns: u64,
     bank: &mut [Element],
 ) -> Result<Standing, Refusal> {
-    let standing = Standing::open(rows, columns, field.limit)?;
-    fill_front(bank, columns, Element::zero()).ok_or(Refusal::BankShort)?;
+    let standing = Standing::open(rows, columns, u64::from(field.limit))?;
+    fill_front(bank, columns, Element::ZERO).ok_or(Refusal::BankShort)?;
     Ok(standing)
 }
 
-// Tells a host a move: how it stands then, or a refusal, after which nothing has changed.
+/// Tells a host a move: how it stands then. Refused with 12, 1, 2, 3, 13, and nothing changes.
 pub fn note_at_host(standing: Standing, bank: &mut [i64], m: Move) -> Result<Standing, Refusal> {
     if (bank.len() as u64) < standing.cells() {
         return Err(Refusal::BankShort);
@@ -47,7 +46,8 @@ pub fn note_at_host(standing: Standing, bank: &mut [i64], m: Move) -> Result<Sta
     Ok(standing.after(m))
 }
 
-// Tells a box a move: its column grows by the amount's image times χ_x at the point, where x is the cell's row.
+/// Tells a box a move: its column grows by the amount's image times χ_x at the point, where x is the cell's row.
+/// Refused with 12, 1, 2, 3, and nothing changes.
 pub fn note_at_verifier(
     game: Game,
     point: Element,
@@ -63,7 +63,7 @@ pub fn note_at_verifier(
         .basis(point)?
         .get(row)
         .copied()
-        .unwrap_or(Element::zero());
+        .unwrap_or(Element::ZERO);
     let share = game.field.product(game.field.image(m.amount), weight);
     if let Some(sum) = bank.get_mut(column) {
         *sum = game.field.sum(*sum, share);

@@ -1,13 +1,13 @@
 // The front of a bank, a tray or a paper.
 
 // Puts x into the first n cells; nothing where there are fewer.
-pub fn fill_front<T: Copy>(cells: &mut [T], n: u64, x: T) -> Option<()> {
+pub(crate) fn fill_front<T: Copy>(cells: &mut [T], n: u64, x: T) -> Option<()> {
     cells.get_mut(0..n as usize)?.fill_with(|| x);
     Some(())
 }
 
 // Puts values into the first cells, as far as there are any.
-pub fn put_front<T: Copy>(cells: &mut [T], values: &[T]) {
+pub(crate) fn put_front<T: Copy>(cells: &mut [T], values: &[T]) {
     for (cell, value) in cells.iter_mut().zip(values) {
         *cell = *value;
     }

@@ -12,7 +12,7 @@ fn node(field: Arithmetic, k: u64) -> Element {
 // The product of (a − k) over k from 0 to n − 1 without x.
 fn product_without(field: Arithmetic, n: u64, x: u64, a: Element) -> Element {
     (0..n).filter(|k| *k != x).fold(
-        Element::one(),
+        Element::ONE,
         |all, k| field.product(all, field.difference(a, node(field, k))),
     )
 }
@@ -24,11 +24,11 @@ fn basis_of(field: Arithmetic, n: u64, x: u64, point: Element) -> Element {
     field.product(above, field.inverse(below))
 }
 
-// The value at a point of the polynomial that takes these values at 0, 1, 2, ..
+/// The value at a point of the polynomial that takes these values at 0, 1, 2, ..
 pub fn value_at(field: Arithmetic, values: &[Element], point: Element) -> Element {
     let n = values.len() as u64;
     (0..n).zip(values).fold(
-        Element::zero(),
+        Element::ZERO,
         |all, (j, value)| field.sum(all, field.product(*value, basis_of(field, n, j, point))),
     )
 }
@@ -44,14 +44,14 @@ fn column(
     basis
         .iter()
         .zip(counts.chunks(columns.max(1)))
-        .fold(Element::zero(), |all, (weight, row)| {
+        .fold(Element::ZERO, |all, (weight, row)| {
             let count = row.get(y).copied().unwrap_or(0);
             field.sum(all, field.product(field.image(count), *weight))
         })
 }
 
 impl Game {
-    // χ_0 to χ_(h − 1) over the rows, at a point.
+    /// χ_0 to χ_(h − 1) over the h rows, at a point.
     pub fn basis(self, point: Element) -> Result<Vec<Element>, AllocError> {
         let rows = self.at.rows;
         (0..rows)
@@ -59,7 +59,7 @@ impl Game {
             .collect(self.heap)
     }
 
-    // Every column at a point.
+    /// Every column of the counts at a point.
     pub fn columns_at(self, counts: &[i64], point: Element) -> Result<Vec<Element>, AllocError> {
         let basis = self.basis(point)?;
         let columns = self.at.columns as usize;

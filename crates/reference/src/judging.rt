@@ -1,24 +1,15 @@
 // Judging a sheet at a sealed box.
-use crate::arithmetic::Arithmetic;
 use crate::ask::Ask;
 use crate::element::Element;
 use crate::front::put_front;
 use crate::game::Game;
 use crate::interpolation::value_at;
-use crate::reading::Sheet;
 use crate::refusal::Refusal;
+use crate::sheet::Sheet;
 use crate::stop::Stop;
 
-// The first h values, added.
-fn first_sum(field: Arithmetic, values: &[Element], rows: u64) -> Element {
-    values
-        .iter()
-        .take(rows as usize)
-        .fold(Element::zero(), |all, value| field.sum(all, *value))
-}
-
 impl Game {
-    // Reads a sheet, and tests its sum and its value at the point.
+    // Reads a sheet, and tests the sum of its first values, one for each row, and its value at the point.
     fn weigh(
         self,
         point: Element,
@@ -28,7 +19,8 @@ impl Game {
     ) -> Result<Sheet, Stop> {
         let read = self.read_sheet(ask, sheet)?;
         let values = read.values.as_slice();
-        if first_sum(self.field, values, self.at.rows) != self.field.image(read.claim) {
+        let rows = values.get(0..self.at.rows as usize).unwrap_or(values);
+        if self.field.total(rows) != self.field.image(read.claim) {
             return Err(Stop::from(Refusal::SumWrong));
         }
         if value_at(self.field, values, point) != self.rule(ask, point, columns)? {
@@ -37,7 +29,8 @@ impl Game {
         Ok(read)
     }
 
-    // The accepted claim with the values in the tray, or a refusal; from 30 on it leaves zeros there.
+    /// The accepted claim, with the values in the tray. Refused with 12, 20, 21, and nothing changes; then with the
+    /// sheet's first fault, 50, 51, and zeros stand in the tray's front.
     pub fn judge(
         self,
         point: Element,

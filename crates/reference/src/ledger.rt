@@ -1,4 +1,4 @@
-// The ledger: which moves count, and what they come to.
+// The ledger.
 use crate::moves::Move;
 use crate::refusal::Refusal;
 use crate::standing::Standing;
@@ -6,6 +6,7 @@ use crate::stop::Stop;
 use std::alloc::{AllocError, Global};
 use std::collections::BTreeMap;
 
+/// Which moves count, and what they come to, cell by cell.
 #[derive(Drop)]
 pub struct Ledger {
     standing: Standing,
@@ -13,6 +14,7 @@ pub struct Ledger {
 }
 
 impl Ledger {
+    /// A ledger of no moves, for an allowed grid; another is refused with 10.
     pub fn open(heap: Global, rows: u64, columns: u64, limit: u64) -> Result<Ledger, Refusal> {
         Ok(Ledger {
             standing: Standing::open(rows, columns, limit)?,
@@ -20,16 +22,17 @@ impl Ledger {
         })
     }
 
+    /// How it stands.
     pub fn standing(&self) -> Standing {
         self.standing
     }
 
-    // The count of a cell: what the accepted moves there add up to.
+    /// The count of a cell: what the accepted moves there add up to.
     pub fn count(&self, cell: u64) -> i64 {
         self.counts.get(&cell).copied().unwrap_or(0)
     }
 
-    // Accepts a move, or refuses it and changes nothing.
+    /// Accepts a move. Refused with 1, 2, 3, and nothing changes.
     pub fn note(&mut self, m: Move) -> Result<(), Stop> {
         self.standing.test(m)?;
         let count = self.count(m.cell).wrapping_add(m.amount);
@@ -38,7 +41,7 @@ impl Ledger {
         Ok(())
     }
 
-    // The counts of all cells, in order.
+    /// The counts of all cells, in order.
     pub fn all_counts(&self, heap: Global) -> Result<Vec<i64>, AllocError> {
         (0..self.standing.cells())
             .map(|cell| self.count(cell))

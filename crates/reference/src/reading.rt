@@ -1,26 +1,22 @@
 // Reading a sheet.
 use crate::ask::Ask;
 use crate::element::Element;
+use crate::fault::Fault;
 use crate::front::{fill_front, put_front};
 use crate::game::Game;
-use crate::pieces::{Piece, pieces_of};
-use crate::refusal::{Fault, Position, Refusal};
+use crate::piece::{Piece, pieces_of};
+use crate::position::Position;
+use crate::refusal::Refusal;
+use crate::sheet::Sheet;
 use crate::stop::Stop;
-use crate::wants::Want;
+use crate::want::Want;
 use std::alloc::{AllocError, Global};
-
-// What a sheet says: a claim and values.
-#[derive(Drop)]
-pub struct Sheet {
-    pub claim: i64,
-    pub values: Vec<Element>,
-}
 
 // Holds the pieces to what is wanted, and keeps the numbers that are to be kept.
 fn kept_numbers(heap: Global, wants: &[Want], pieces: &[Piece<'_>]) -> Result<Vec<i64>, Stop> {
     let mut kept = Vec::new(heap);
     for (want, piece) in wants.iter().zip(pieces) {
-        match want.kept(piece.text) {
+        match want.kept(piece) {
             Ok(Some(number)) => kept.push(number)?,
             Ok(None) => {}
             Err(fault) => return Err(Stop::from(Refusal::Sheet(fault, piece.at))),
@@ -41,14 +37,13 @@ fn elements(heap: Global, parts: &[i64]) -> Result<Vec<Element>, AllocError> {
 }
 
 impl Game {
-    // Reads a sheet for a question, or tells its first fault.
+    /// Reads a sheet for a question, or tells its first fault.
     pub fn read_sheet(self, ask: Ask, sheet: &[u8]) -> Result<Sheet, Stop> {
         let wants = self.wants(ask)?;
         let pieces = pieces_of(self.heap, sheet)?;
         let kept = kept_numbers(self.heap, wants.as_slice(), pieces.as_slice())?;
         let Some((claim, parts)) = kept.as_slice().split_first() else {
-            let start = Position { line: 1, place: 0 };
-            return Err(Stop::from(Refusal::Sheet(Fault::Unexpected, start)));
+            return Err(Stop::from(Refusal::Sheet(Fault::Unexpected, Position::START)));
         };
         Ok(Sheet {
             claim: *claim,
@@ -58,10 +53,11 @@ impl Game {
 
     // Puts zeros into a tray's front, where a sheet's values go.
     pub(crate) fn clear_tray(self, ask: Ask, tray: &mut [Element]) -> Result<(), Refusal> {
-        fill_front(tray, ask.size(self.at), Element::zero()).ok_or(Refusal::TrayShort)
+        fill_front(tray, ask.size(self.at), Element::ZERO).ok_or(Refusal::TrayShort)
     }
 
-    // Reads a sheet into the front of a tray: the claim, or a refusal, which from 30 on leaves zeros there.
+    /// Reads a sheet into the front of a tray: the claim. Refused with 21, and nothing changes; then with the sheet's
+    /// first fault, and zeros stand there.
     pub fn read_into(self, ask: Ask, sheet: &[u8], tray: &mut [Element]) -> Result<i64, Stop> {
         self.clear_tray(ask, tray)?;
         let read = self.read_sheet(ask, sheet)?;

@@ -1,60 +1,39 @@
-// The rules that a call can break, and the number that the table gives each.
+// The rules that a call can break.
+use crate::fault::Fault;
+use crate::position::Position;
 
-// Where a fault of a sheet lies: its line, from 1, and its byte, from 0.
-#[derive(Clone, Copy, PartialEq, Eq, Debug)]
-pub struct Position {
-    pub line: u64,
-    pub place: u64,
-}
-
-// What is wrong with a piece of a sheet, each with its number in the table.
-#[derive(Clone, Copy, PartialEq, Eq, Debug)]
-pub enum Fault {
-    // It is neither a word nor a number.
-    Malformed = 30,
-    // The grammar has another piece.
-    Unexpected = 31,
-    // It is not the number of the field, of the grid, of the tag.
-    Field = 40,
-    Grid = 41,
-    Tag = 42,
-    // The claim is beyond its limits.
-    Claim = 43,
-    // The value line is not the next one.
-    Index = 44,
-    // It is no part of an element.
-    Part = 45,
-}
-
+/// Why a call refuses, with the number that the table gives it.
 #[derive(Clone, Copy, PartialEq, Eq, Debug)]
 pub enum Refusal {
-    // Of a move: its cell, its amount, its weight.
+    /// 1: the move's cell.
     CellOutside,
+    /// 2: the move's amount.
     AmountOutside,
+    /// 3: the weight with the move's.
     TooHeavy,
-    // Of a grid, and of a bank.
+    /// 10: the grid.
     GridOutside,
+    /// 12: the bank's length.
     BankShort,
+    /// 13: a count, or all of them.
     CountOutside,
-    // Of a question, and of the memory for its answer.
+    /// 20: the question on this grid.
     QuestionUnfit,
+    /// 21: the tray's length.
     TrayShort,
+    /// 22: the paper's length.
     PaperShort,
-    // Of a sheet: a fault, the sum, the value at the point.
+    /// 30 to 45: a fault of the sheet, and where it lies.
     Sheet(Fault, Position),
+    /// 50: the sum of the first values.
     SumWrong,
+    /// 51: the value at the point.
     PointWrong,
 }
 
-impl Fault {
-    pub fn number(self) -> u64 {
-        self as u64
-    }
-}
-
 impl Refusal {
+    /// Its number in the table of refusals.
     pub fn number(self) -> u64 {
-        // One case has fields, so the numbers cannot be discriminants.
         match self {
             Refusal::CellOutside => 1,
             Refusal::AmountOutside => 2,
@@ -71,7 +50,7 @@ impl Refusal {
         }
     }
 
-    // Where the sheet's fault lies, if it is one.
+    /// Where the sheet's fault lies, if it is one.
     pub fn position(self) -> Option<Position> {
         match self {
             Refusal::Sheet(_, position) => Some(position),

@@ -2,10 +2,11 @@
 use crate::ask::Ask;
 use crate::element::Element;
 use crate::game::Game;
+use crate::numbers::GOODS;
 use std::alloc::AllocError;
 
 impl Game {
-    // The element that a question's rule gives at a point, from the columns there.
+    /// The element that a question's rule gives at a point, from the columns there.
     pub fn rule(
         self,
         ask: Ask,
@@ -13,11 +14,11 @@ impl Game {
         columns: &[Element],
     ) -> Result<Element, AllocError> {
         match ask {
-            Ask::Cell(i) => self.cells_rule(i, i, point, columns),
-            Ask::Goods(g) => Ok(self.goods_rule(g, columns)),
-            Ask::Range(a, b) => self.cells_rule(a, b, point, columns),
+            Ask::Cell(cell) => self.cells_rule(cell, cell, point, columns),
+            Ask::Goods(goods) => Ok(self.goods_rule(goods, columns)),
+            Ask::Range(first, last) => self.cells_rule(first, last, point, columns),
             Ask::Squares => Ok(self.squares_rule(columns)),
-            Ask::Stated(_) => Ok(Element::zero()),
+            Ask::Stated(_) => Ok(Element::ZERO),
         }
     }
 
@@ -30,10 +31,10 @@ impl Game {
         columns: &[Element],
     ) -> Result<Element, AllocError> {
         let basis = self.basis(point)?;
-        let sum = (first..=last).fold(Element::zero(), |all, cell| {
+        let sum = (first..=last).fold(Element::ZERO, |all, cell| {
             let (x, y) = self.at.place(cell);
-            let weight = basis.get(x).copied().unwrap_or(Element::zero());
-            let column = columns.get(y).copied().unwrap_or(Element::zero());
+            let weight = basis.get(x).copied().unwrap_or(Element::ZERO);
+            let column = columns.get(y).copied().unwrap_or(Element::ZERO);
             self.field.sum(all, self.field.product(weight, column))
         });
         Ok(sum)
@@ -44,8 +45,8 @@ impl Game {
         columns
             .iter()
             .enumerate()
-            .filter(|(y, _)| *y as u64 % 8 == goods)
-            .fold(Element::zero(), |all, (_, column)| {
+            .filter(|(y, _)| *y as u64 % GOODS == goods)
+            .fold(Element::ZERO, |all, (_, column)| {
                 self.field.sum(all, *column)
             })
     }
@@ -53,7 +54,7 @@ impl Game {
     // The sum of the squares of the columns.
     fn squares_rule(self, columns: &[Element]) -> Element {
         columns.iter().fold(
-            Element::zero(),
+            Element::ZERO,
             |all, column| self.field.sum(all, self.field.product(*column, *column)),
         )
     }

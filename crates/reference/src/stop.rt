@@ -1,10 +1,13 @@
-// Why a call stops: it refuses, or there is no memory for the vectors.
+// Why a call stops.
 use crate::refusal::Refusal;
 use std::alloc::{AllocError, AllocFailed};
 
+/// A call refuses, or there is no memory for its vectors.
 #[derive(Clone, Copy, PartialEq, Eq, Debug)]
 pub enum Stop {
+    /// It refuses.
     Refused(Refusal),
+    /// There is no memory.
     Memory(AllocError),
 }
 

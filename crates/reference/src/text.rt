@@ -2,9 +2,10 @@
 use crate::element::Element;
 use crate::front::put_front;
 use crate::game::Game;
-use crate::naming::Tag;
+use crate::numbers::{GREATEST_DEGREE, PAPER};
 use crate::refusal::Refusal;
 use crate::stop::Stop;
+use crate::tag::Tag;
 use std::alloc::AllocError;
 use std::fmt::Write;
 
@@ -18,7 +19,7 @@ impl Game {
         format!(in self.heap; "(sheet {p} {e} (grid {rows} {columns}))\n(claim {tag} {claim})\n")
     }
 
-    // The whole sheet. Claim and values are apart, so that any slice will do.
+    /// The whole sheet of a claim and values, under a tag.
     pub fn write_sheet(
         self,
         tag: Tag,
@@ -33,7 +34,8 @@ impl Game {
         Ok(all)
     }
 
-    // Lays a sheet onto paper that is enough for every sheet, and tells its length.
+    /// Lays a sheet onto a paper, and tells its length. Refused with 22 where the paper is too short, or the values are
+    /// more than a sheet may have, and nothing changes.
     pub fn lay_sheet(
         self,
         tag: Tag,
@@ -41,7 +43,7 @@ impl Game {
         values: &[Element],
         paper: &mut [u8],
     ) -> Result<u64, Stop> {
-        if paper.len() < 9216 || values.len() > 253 {
+        if paper.len() < PAPER || values.len() as u64 > GREATEST_DEGREE + 1 {
             return Err(Stop::from(Refusal::PaperShort));
         }
         let text = self.write_sheet(tag, claim, values)?;

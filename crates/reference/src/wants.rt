@@ -1,36 +1,10 @@
 // What the grammar has, piece by piece.
 use crate::ask::Ask;
+use crate::fault::Fault;
 use crate::game::Game;
-use crate::naming::Limits;
-use crate::pieces::{is_malformed, number_value};
-use crate::refusal::Fault;
+use crate::limits::Limits;
+use crate::want::Want;
 use std::alloc::AllocError;
-
-#[derive(Clone, Copy)]
-pub enum Want {
-    // A bracket, a line end or a word; no text at all at the end of the sheet.
-    Text(&'static str),
-    // This number; another has this fault.
-    Number(u64, Fault),
-    // A number within limits, kept; another has this fault.
-    Kept(Limits, Fault),
-}
-
-impl Want {
-    // The number to be kept of a piece where this is wanted, if there is one; or what is wrong with the piece.
-    pub fn kept(self, text: &[u8]) -> Result<Option<i64>, Fault> {
-        if is_malformed(text) {
-            return Err(Fault::Malformed);
-        }
-        match (self, number_value(text)) {
-            (Want::Text(wanted), _) if text == wanted.as_bytes() => Ok(None),
-            (Want::Number(wanted, _), Some(n)) if i64::try_from(wanted) == Ok(n) => Ok(None),
-            (Want::Kept(limits, _), Some(n)) if limits.allow(n) => Ok(Some(n)),
-            (Want::Number(_, fault) | Want::Kept(_, fault), Some(_)) => Err(fault),
-            _ => Err(Fault::Unexpected),
-        }
-    }
-}
 
 impl Game {
     // `(sheet p e (grid h v))`
@@ -38,8 +12,8 @@ impl Game {
         wants.extend_from_slice(&[
             Want::Text("("),
             Want::Text("sheet"),
-            Want::Number(self.field.p, Fault::Field),
-            Want::Number(self.field.e, Fault::Field),
+            Want::Number(u64::from(self.field.p), Fault::Field),
+            Want::Number(u64::from(self.field.e), Fault::Field),
             Want::Text("("),
             Want::Text("grid"),
             Want::Number(self.at.rows, Fault::Grid),
@@ -71,7 +45,7 @@ impl Game {
     fn add_value(self, wants: &mut Vec<Want>, j: u64) -> Result<(), AllocError> {
         let low = Limits {
             least: 0,
-            greatest: i64::try_from(self.field.p).unwrap_or(0).wrapping_sub(1),
+            greatest: i64::from(self.field.p) - 1,
         };
         let high = match self.field.e {
             1 => Limits {
@@ -94,7 +68,7 @@ impl Game {
     }
 
     // The whole sheet for a question: its lines, `(end)`, and nothing behind.
-    pub fn wants(self, ask: Ask) -> Result<Vec<Want>, AllocError> {
+    pub(crate) fn wants(self, ask: Ask) -> Result<Vec<Want>, AllocError> {
         let mut wants = Vec::new(self.heap);
         self.add_head(&mut wants)?;
         self.add_claim(&mut wants, ask)?;

@@ -1,41 +1,41 @@
 // The fields that there are.
-use crate::show::Parts;
-use extension::Extension;
-use field::{BaseField, Field};
-use prime::{Mersenne31, Mod65537};
+use crate::element::Shown;
+use crate::field_words::FieldWords;
+use field::Field;
+use fields::{Mod65537x2, NamedField};
 use std::io;
 
-// A line for a base field and one for its extension.
-fn print_pair<B: BaseField>(rt: &impl Print, name: &str) -> io::Result<()> {
-    let p = B::characteristic();
-    let limit = B::limit();
-    let w = B::non_square().low();
-    println!(rt; "  {name}: p {p}, e 1, W {limit}")?;
-    println!(rt; "  {name} with t, t x t = {w}: p {p}, e 2, W {limit}")
-}
-
-fn print_element<F: Field>(rt: &impl Print, text: &str, x: F) -> io::Result<()> {
-    println!(rt; "  {text}: {}", Parts(x))
-}
-
-// The element 2 + 3 t of the extension of 65,537, its square, and its inverse.
-fn print_example(rt: &impl Print) -> io::Result<()> {
-    let x = <Extension<Mod65537> as Field>::of_parts(2, 3);
-    print_element(rt, "x = 2 + 3 t", x)?;
-    print_element(rt, "x times x", x.product(x))?;
-    match x.inverse() {
-        Some(y) => {
-            print_element(rt, "one over x", y)?;
-            print_element(rt, "x times one over x", x.product(y))
-        }
-        None => println!(rt; "  x has no inverse"),
+// A named field: its numbers, and the limit of the weight of all moves.
+fn print_field(rt: &impl Print, field: NamedField) -> io::Result<()> {
+    let words = FieldWords(field);
+    let p = field.characteristic();
+    let e = field.degree();
+    let limit = field.limit();
+    print!(rt; "  {words}: p = {p}, e = {e}")?;
+    if e == 2 {
+        print!(rt; ", t x t = {}", field.non_square())?;
     }
+    println!(rt; "; all moves together weigh no more than {limit}")
 }
 
+// The element 2 + 3 t of the extension of the residues modulo 65,537, its square, and its inverse.
+fn print_example(rt: &impl Print) -> io::Result<()> {
+    let x = Mod65537x2::element(2, 3).unwrap_or(Mod65537x2::zero());
+    println!(rt; "In the field of {}", FieldWords(NamedField::Mod65537x2))?;
+    println!(rt; "  x = {}", Shown(x))?;
+    println!(rt; "  x times x = {}", Shown(x * x))?;
+    if let Some(inverse) = x.inverse() {
+        println!(rt; "  1 over x = {}", Shown(inverse))?;
+        println!(rt; "  x times (1 over x) = {}", Shown(x * inverse))?;
+    }
+    Ok(())
+}
+
+/// Prints every named field, and an example of what is computed in one.
 pub fn print(rt: &impl Print) -> io::Result<()> {
     println!(rt; "The fields")?;
-    print_pair::<Mod65537>(rt, "residues modulo 65537")?;
-    print_pair::<Mersenne31>(rt, "residues modulo 2147483647")?;
-    println!(rt; "In the extension of 65537")?;
+    for field in NamedField::ALL {
+        print_field(rt, field)?;
+    }
     print_example(rt)
 }

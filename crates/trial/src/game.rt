@@ -1,27 +1,14 @@
 // A game on a board of two rows and eight columns, told to both ends and sealed, with what is then asked of them.
-use crate::ends::{Ends, Listening};
+use crate::boxes::secret_point;
+use crate::count_table::CountTable;
+use crate::ends::{Ends, Listening, Sealed};
 use crate::questions;
-use crate::show::{Elements, Noted, Standing};
-use board::{Bank, Move};
+use board::{Bank, Book, Move};
 use field::Field;
-use prime::Mod65537;
+use fields::Mod65537;
 use std::io;
 
-// Tells both ends the moves, and prints what each answers.
-fn tell(rt: &impl Print, ends: &mut Listening<'_>, moves: &[Move]) -> io::Result<()> {
-    for m in moves {
-        let Move { cell, amount } = *m;
-        let (at_host, at_verifier) = ends.note(*m);
-        println!(rt;
-            "  move ({cell}, {amount}): host {} box {}",
-            Noted(at_host),
-            Noted(at_verifier)
-        )?;
-    }
-    Ok(())
-}
-
-// The moves of the game that count.
+/// The moves of the game that count.
 pub const COUNTED: [Move; 3] = [
     Move { cell: 0, amount: 3 },
     Move { cell: 8, amount: 1 },
@@ -48,18 +35,51 @@ const REFUSED: [Move; 4] = [
     },
 ];
 
-fn print_bank(rt: &impl Print, cells: &[Mod65537]) -> io::Result<()> {
-    println!(rt; "  bank of the box:{}", Elements(cells))
+/// The secret point of the game's box.
+pub const POINT: u32 = 5;
+
+// Tells both ends the moves, and prints what they answer.
+fn tell(rt: &impl Print, ends: &mut Listening<'_>, moves: &[Move]) -> io::Result<()> {
+    for m in moves {
+        let Move { cell, amount } = *m;
+        let told = ends.note(*m);
+        println!(rt; "  a move of {amount} at cell {cell}: {told}")?;
+    }
+    Ok(())
 }
 
-pub fn play(rt: &impl Print) -> anyhow::Result<()> {
+// How an end stands.
+fn print_book(rt: &impl Print, end: &str, book: &Book) -> io::Result<()> {
+    let weight = book.weight();
+    let number = book.number();
+    println!(rt; "  the {end} accepted {number} moves, which weigh {weight}")
+}
+
+// What the ends keep of the moves.
+fn print_banks(rt: &impl Print, ends: &Sealed<'_>) -> io::Result<()> {
+    let table = CountTable {
+        grid: ends.host.book().grid(),
+        counts: ends.counts.cells(),
+    };
+    println!(rt; "  the counts that the host keeps\n{table}")?;
+    print!(rt; "  the elements that the box keeps\n          ")?;
+    for sum in ends.sums.cells() {
+        print!(rt; "{:>7}", sum.low())?;
+    }
+    println!(rt; "")
+}
+
+/// Plays the game, and asks both ends this season's questions.
+pub fn play(rt: &(impl Print + AllocGlobal)) -> anyhow::Result<()> {
     let mut counts = [7i32; 16];
     let mut sums = [Mod65537::one(); 8];
     let mut counts = Bank::new(&mut counts);
     let mut sums = Bank::new(&mut sums);
-    println!(rt; "A game of 2 rows and 8 columns over the residues modulo 65537, secret point 5")?;
+    println!(rt;
+        "A game on 2 rows and 8 columns, over the residues modulo 65537; the secret point of the box is {POINT}"
+    )?;
     let host = host::Listening::open(2, 8, &mut counts)?;
-    let verifier = verifier::Listening::open(2, 8, Mod65537::image(5), &mut sums)?;
+    let verifier = verifier::Listening::open(2, 8, secret_point(POINT), &mut sums)?;
     let mut ends = Ends {
         host,
         counts,
@@ -69,9 +89,8 @@ pub fn play(rt: &impl Print) -> anyhow::Result<()> {
     tell(rt, &mut ends, &COUNTED)?;
     tell(rt, &mut ends, &REFUSED)?;
     let ends = ends.seal();
-    println!(rt; "  host: {}", Standing(ends.host.book()))?;
-    println!(rt; "  box: {}", Standing(ends.verifier.book()))?;
-    print_bank(rt, ends.sums.cells())?;
-    questions::ask_all(rt, &ends)?;
-    Ok(())
+    print_book(rt, "host", ends.host.book())?;
+    print_book(rt, "box", ends.verifier.book())?;
+    print_banks(rt, &ends)?;
+    questions::print(rt, &ends)
 }

@@ -1,20 +1,31 @@
-// Plays trials on a small board from the first move to the judged sheets, and prints a report.
+//! A program that plays trials on a small board, from the first move to the judged sheets, and prints a report for
+//! whoever coordinates the trials of a club.
 #![tactic(auto)]
 
+mod boxes;
 mod cheats;
+mod count_table;
+mod damage;
+mod element;
 mod ends;
+mod field_words;
 mod fields;
 mod game;
+mod page;
 mod questions;
-mod show;
+mod refused;
+mod sheets;
+mod statement;
+mod told;
 mod trials;
+mod verdict;
 
 fn run(rt: &HostRuntime) -> anyhow::Result<()> {
     fields::print(rt)?;
     game::play(rt)?;
-    cheats::try_all(rt)?;
-    trials::print_all(rt)?;
-    Ok(())
+    cheats::print(rt)?;
+    damage::print(rt)?;
+    trials::print(rt)
 }
 
 fn main(rt: HostRuntime) -> anyhow::Result<()> {

@@ -1,15 +1,16 @@
 // Whole trials over each field.
-use crate::show::{Judged, Parts};
+use crate::boxes::SQUARES;
+use crate::element::Shown;
+use crate::field_words::FieldWords;
+use crate::verdict::Verdict;
 use board::{Bank, Move};
-use extension::Extension;
 use field::Field;
+use fields::{FieldTask, NamedField};
 use play::play_trial;
-use prime::{Mersenne31, Mod65537};
-use question::Question;
 use season::Squares;
-use std::io;
+use writer::ENOUGH_PAPER;
 
-// The moves of a trial: three that count, and two that are refused.
+// The moves of a trial: the three that count, and two that are refused.
 const MOVES: [Move; 5] = [
     Move { cell: 0, amount: 3 },
     Move {
@@ -27,45 +28,68 @@ const MOVES: [Move; 5] = [
     },
 ];
 
-// A trial for the squares, from the opening of both ends to the judged sheet, and how many points could let a wrong claim by.
-// Bank and tray are the caller's: tried, the proof did not close where arrays of a type parameter are lent on from here.
-fn print_trial<F: Field>(
-    rt: &impl Print,
-    point: F,
-    sums: &mut [F],
-    tray: &mut [F],
-) -> io::Result<()> {
-    let points = u64::from(F::characteristic()).saturating_pow(F::degree());
-    let mut counts = [0i32; 16];
-    let mut paper = [0u8; 9216];
-    let found = play_trial(
-        2,
-        8,
-        point,
-        &MOVES,
-        &Squares,
-        &mut Bank::new(&mut counts),
-        &mut Bank::new(sums),
-        tray,
-        &mut paper,
-    );
-    println!(rt;
-        "  at {}, at most 2 of {points} points let a wrong claim by: {}",
-        Parts(point),
-        Judged(found)
-    )
+// The fields, and the low and the high part of the secret point in each.
+const TRIALS: [(NamedField, u32, u32); 4] = [
+    (NamedField::Mod65537, 5, 0),
+    (NamedField::Mersenne31, 5, 0),
+    (NamedField::Mod65537x2, 0, 1),
+    (NamedField::Mersenne31x2, 5, 2_147_483_646),
+];
+
+// A trial for the squares, at a secret point with these parts.
+#[derive(Drop)]
+struct Trial<'a, R> {
+    rt: &'a R,
+    field: NamedField,
+    low: u32,
+    high: u32,
 }
 
-pub fn print_all(rt: &impl Print) -> io::Result<()> {
-    println!(rt; "Whole trials, for the squares of the counts")?;
-    let zero = Mod65537::zero();
-    print_trial(rt, Mod65537::image(5), &mut [zero; 8], &mut [zero; 11])?;
-    let zero = Mersenne31::zero();
-    print_trial(rt, Mersenne31::image(5), &mut [zero; 8], &mut [zero; 11])?;
-    let zero = <Extension<Mod65537> as Field>::zero();
-    let t = <Extension<Mod65537> as Field>::of_parts(0, 1);
-    print_trial(rt, t, &mut [zero; 8], &mut [zero; 11])?;
-    let zero = <Extension<Mersenne31> as Field>::zero();
-    let point = <Extension<Mersenne31> as Field>::of_parts(5, 2147483646);
-    print_trial(rt, point, &mut [zero; 8], &mut [zero; 11])
+impl<'a, R: Print + AllocGlobal> FieldTask for Trial<'a, R> {
+    type Out = anyhow::Result<()>;
+
+    // Plays it from the opening of both ends to the judged sheet, and prints how many points could let a false claim by.
+    fn run<F: Field>(self) -> anyhow::Result<()> {
+        let heap = self.rt.alloc();
+        let point = F::element(self.low, self.high).unwrap_or(F::zero());
+        let mut counts = [0i32; 16];
+        let mut sums = vec![in heap; F::zero(); 8]?;
+        let mut tray = vec![in heap; F::zero(); 11]?;
+        let mut paper = vec![in heap; 0u8; ENOUGH_PAPER]?;
+        let found = play_trial(
+            2,
+            8,
+            point,
+            &MOVES,
+            &Squares,
+            &mut Bank::new(&mut counts),
+            &mut Bank::new(sums.as_mut_slice()),
+            tray.as_mut_slice(),
+            paper.as_mut_slice(),
+        );
+        let truth = SQUARES;
+        let points = u64::from(F::CHARACTERISTIC).saturating_pow(F::DEGREE);
+        println!(self.rt;
+            "  {}, at the point {}: {}; at most 2 of the {points} points let a false claim by",
+            FieldWords(self.field),
+            Shown(point),
+            Verdict { found, truth }
+        )?;
+        Ok(())
+    }
+}
+
+/// Plays a trial over each named field, and prints what it comes to.
+pub fn print(rt: &(impl Print + AllocGlobal)) -> anyhow::Result<()> {
+    println!(rt; "Whole trials, for the squares of all counts")?;
+    for (field, low, high) in TRIALS {
+        let trial = Trial {
+            rt,
+            field,
+            low,
+            high,
+        };
+        field.run(trial)?;
+    }
+    Ok(())
 }

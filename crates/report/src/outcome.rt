@@ -1,0 +1,34 @@
+// What a call came to, alike for the product and for the reference.
+use crate::refused::Refused;
+use reference::Stop;
+use std::alloc::AllocError;
+
+/// What a call gave, or why it refused.
+pub type Outcome<T> = Result<T, Refused>;
+
+/// What a call of the product came to.
+pub fn found<T>(answer: Result<T, refusal::Refusal>) -> Outcome<T> {
+    answer.map_err(Refused::from)
+}
+
+/// What a call of the reference came to, unless there was no memory for it.
+pub fn wanted<T>(answer: Result<T, Stop>) -> Result<Outcome<T>, AllocError> {
+    match answer {
+        Ok(given) => Ok(Ok(given)),
+        Err(Stop::Refused(refusal)) => Ok(Err(Refused::from(refusal))),
+        Err(Stop::Memory(e)) => Err(e),
+    }
+}
+
+/// The outcome without what was given.
+pub fn bare<T>(outcome: &Outcome<T>) -> Outcome<()> {
+    outcome.as_ref().map(|_| ()).map_err(|refused| *refused)
+}
+
+/// The outcome without what was given, its refusal by the number alone.
+pub fn number_of<T>(outcome: &Outcome<T>) -> Result<(), u64> {
+    outcome
+        .as_ref()
+        .map(|_| ())
+        .map_err(|refused| refused.number)
+}
