@@ -1,25 +1,21 @@
 -- Reading accepts just the sheets, with values given by their parts. Assumes nothing.
-use Rattle.std.proofs.Common.{◌≡◌, ℕ, zero, suc, ◌<◌, List, [], ◌∷◌, ◌++◌, length, get_or, drop, replicate, ℤ, pos, negsuc, ◌-ℤ◌, ◌≤ℤ◌, Ok, Err, Result, sym, refl, ap, ◌∙◌, subst, append-nil, arith}
+use Rattle.std.proofs.Common.{◌≡◌, ℕ, zero, suc, ◌<◌, List, [], ◌∷◌, length, get_or, drop, ℤ, pos, negsuc, ◌-ℤ◌, ◌≤ℤ◌, Ok, Err, Result, sym, refl, ap, ◌∙◌, subst, arith}
 use Rattle.std.specs.List.{AllByRecursion}
 use Rattle.std.proofs.lemmas.Int.{ints}
 use Rattle.std.proofs.lemmas.Bool.Decides.{nat_tests}
+use Rattle.field.specs.Field.{FieldModel, PartsOf, high_limit}
 use Rattle.refusal.specs.declared.refusal.Refusal.{Refusal}
-use Rattle.token.specs.Tokens.{cursor_start}
+use Rattle.text.specs.Marks.{marks, InRanges, Layout}
+use Rattle.text.specs.Forms.{whole_form, form_reading}
+use Rattle.text.proofs.Forms.{reads_forms}
 use Rattle.sheet.specs.declared.terms.Terms.{Terms}
-use Rattle.expect.specs.Dues.{Passed, pass}
-use Rattle.sheet.specs.Readings.{high_limit, due, lines, paired, concluded, parsed}
-use Rattle.sheet.proofs.Fills.{flat, paired_flat}
-use Rattle.sheet.proofs.Passes.{high_fits, high_only}
-use Rattle.layout.specs.Marks.{Mark, head_marks, value_marks, line_marks, marks, Layout}
-use Rattle.layout.specs.Faults.{due_marks, Kept}
-use Rattle.layout.proofs.Traces.{Traced, trace, arrive, pass_none}
+use Rattle.sheet.specs.Lines.{value_lines, sheet_lines}
+use Rattle.sheet.specs.Sheets.{part_numbers}
+use Rattle.sheet.specs.Readings.{paired, concluded, parsed}
+use Rattle.sheet.proofs.Fills.{paired_numbers}
 
 pub same_ok : {A : Type 0} {x y : A} → ◌≡◌ {A = Result A Refusal} (Ok x) (Ok y) → x ≡ y
 same_ok e = cc
-
--- parts of an element at characteristic p and degree e
-abbrev pub IsPart : ℕ → ℕ → ℕ × ℕ → Type 0
-IsPart p e v = (v.0 < p) × (v.1 < p) × (e ≡ 1 → v.1 ≡ 0)
 
 -- a number from 0 to n − 1
 record Below (n : ℕ) (z : ℤ) : Type 0 where
@@ -37,108 +33,90 @@ below_least n = omega (arith, ints)
 below_most : (n m : ℕ) → m < n → pos m ≤ℤ (pos n -ℤ pos 1)
 below_most n m h = omega (arith, ints)
 
-below_limit : (p e : ℕ) (v : ℕ × ℕ) → IsPart p e v → v.1 < high_limit p e
-below_limit p e v i = let a = i.0 in let b = i.1 in let z = i.2 in grind (arith, nat_tests)
+-- parts of an element are below the limits of both parts, and what is below them are parts
+below_limit : (p e l h : ℕ) → l < p → h < p → (e ≡ 1 → h ≡ 0) → h < high_limit p e
+below_limit p e l h a b z = grind (arith, nat_tests)
 
--- the numbers kept of n value lines are n pairs of parts
-record Lined (p e n : ℕ) (zs : List ℤ) : Type 0 where
-  values : List (ℕ × ℕ)
-  are : zs ≡ flat values
-  count : length values ≡ n
-  parts : AllByRecursion (IsPart p e) values
+high_fits : (p e l h : ℕ) → l < p → h < high_limit p e → h < p
+high_fits p e l h some below = grind (arith, nat_tests)
 
-lined : (p e j n : ℕ) (zs : List ℤ) → Kept (lines p e j n) zs → Lined p e n zs
-lined p e j zero zs k = record { values = []; are = k; count = refl; parts = tt }
-lined p e j (suc n) [] k = absurd k
-lined p e j (suc n) (low ∷ []) k = absurd k.2
-lined p e j (suc n) (low ∷ high ∷ zs) k =
-    let r = lined p e (suc j) n zs k.2.2 in
-    let l = below p low k.0 k.1 in
-    let h = below (high_limit p e) high k.2.0 k.2.1 in
-    record {
-      values = (l.value, h.value) ∷ r.values;
-      are = (λ i. l.is i ∷ h.is i ∷ r.are i);
-      count = ap suc r.count;
-      parts = ((l.small, high_fits p e (high_limit p e) l.value h.value refl l.small h.small, high_only p e (high_limit p e) h.value refl h.small), r.parts);
-    }
+high_only : (p e h : ℕ) → h < high_limit p e → e ≡ 1 → h ≡ 0
+high_only p e h below one = grind (arith, nat_tests)
 
-kept_lines : (p e j n : ℕ) (vs : List (ℕ × ℕ)) → length vs ≡ n → AllByRecursion (IsPart p e) vs → Kept (lines p e j n) (flat vs)
-kept_lines p e j zero [] c ps = refl
-kept_lines p e j zero (v ∷ vs) c ps = absurd (omega arith)
-kept_lines p e j (suc n) [] c ps = absurd (omega arith)
-kept_lines p e j (suc n) (v ∷ vs) c ps = (
-  below_least v.0,
-  below_most p v.0 ps.0.0,
-  (below_least v.1, below_most (high_limit p e) v.1 (below_limit p e v ps.0), kept_lines p e (suc j) n vs (omega arith) ps.1),
-)
+module _ {K : Type 0} (F : FieldModel K) where
+  -- a pair of parts of an element
+  abbrev pub IsPair : ℕ × ℕ → Type 0
+  IsPair v = PartsOf F v.0 v.1
 
-marks_lines : (p e j n : ℕ) (vs : List (ℕ × ℕ)) → length vs ≡ n → due_marks (lines p e j n) (flat vs) ≡ line_marks j vs
-marks_lines p e j zero [] c = refl
-marks_lines p e j zero (v ∷ vs) c = absurd (omega arith)
-marks_lines p e j (suc n) [] c = absurd (omega arith)
-marks_lines p e j (suc n) (v ∷ vs) c = ap (λ ms. value_marks j v ++ ms) (marks_lines p e (suc j) n vs (omega arith))
+  -- the numbers of n value lines are n pairs of parts
+  record Lined (n : ℕ) (zs : List ℤ) : Type 0 where
+    values : List (ℕ × ℕ)
+    are : zs ≡ part_numbers values
+    count : length values ≡ n
+    parts : AllByRecursion IsPair values
 
--- the bytes are a sheet that states the claim c and values with these parts
-pub record PartSheet (p e : ℕ) (t : Terms) (c : ℤ) (vs : List (ℕ × ℕ)) (bs : List ℕ) : Type 0 where
-  pub layout : Layout (marks p e t c vs) [] bs
-  pub least : t.least ≤ℤ c
-  pub greatest : c ≤ℤ t.greatest
-  pub count : length vs ≡ suc t.degree
-  pub parts : AllByRecursion (IsPart p e) vs
-
--- the marks behind others are laid out in what is left of the bytes
-layout_behind : (ms ns : List Mark) (left bs : List ℕ) → Layout (ms ++ ns) left bs → (mid : List ℕ) × Layout ns left mid
-layout_behind [] ns left bs l = (bs, l)
-layout_behind (m ∷ ms) ns left bs l = layout_behind ms ns left l.rest l.goes_on
-
-none_left : (n : ℕ) (left : List ℕ) → [] ≡ replicate n 32 ++ left → left ≡ []
-none_left zero left e = sym e
-none_left (suc n) left e = absurd (let q : ◌≡◌ {A = ℕ} 0 1 = cc in omega arith)
-
--- nothing is left behind the last line
-lines_end : (j : ℕ) (vs : List (ℕ × ℕ)) (left bs : List ℕ) → Layout (line_marks j vs) left bs → left ≡ []
-lines_end j [] left bs l =
-    let b = l.goes_on.goes_on.goes_on.goes_on in
-    none_left b.goes_on.0 left (sym b.apart ∙ b.goes_on.1)
-lines_end j (v ∷ vs) left bs l = let m = layout_behind (value_marks j v) (line_marks (suc j) vs) left bs l in lines_end (suc j) vs left m.0 m.1
-
-module _ (p e : ℕ) (t : Terms) (bs : List ℕ) where
-  -- a pass that ends well, by its numbers
-  stated : (c : ℤ) (vs : List (ℕ × ℕ)) (zs : List ℤ) (left : List ℕ) → get_or zs 0 (pos 0) ≡ c → paired (drop 1 zs) ≡ vs → Kept (due p e t) zs → Layout (due_marks (due p e t) zs) left bs → PartSheet p e t c vs bs
-  stated c vs [] left same-c same-vs k l = absurd k
-  stated c vs (d ∷ zs) left same-c same-vs k l =
-      let r = lined p e 0 (suc t.degree) zs k.2 in
-      let are : r.values ≡ vs = sym (paired_flat r.values) ∙ ap paired (sym r.are) ∙ same-vs in
-      let laid : Layout (marks p e t c vs) left bs = subst (λ ms. Layout ms left bs)
-      ((λ i. head_marks p e t (same-c i) ++ due_marks (lines p e 0 (suc t.degree)) (r.are i))
-      ∙ ap (λ ms. head_marks p e t c ++ ms) (marks_lines p e 0 (suc t.degree) r.values r.count)
-      ∙ ap (λ ws. head_marks p e t c ++ line_marks 0 ws) are)
-      l in
-      let m = layout_behind (head_marks p e t c) (line_marks 0 vs) left bs laid in
+  lined : (j n : ℕ) (zs : List ℤ) → InRanges (whole_form (value_lines F j n)) zs → Lined n zs
+  lined j zero zs k = record { values = []; are = k; count = refl; parts = tt }
+  lined j (suc n) [] k = absurd k
+  lined j (suc n) (low ∷ []) k = absurd k.2
+  lined j (suc n) (low ∷ high ∷ zs) k =
+      let r = lined (suc j) n zs k.2.2 in
+      let l = below F.characteristic low k.0 k.1 in
+      let h = below (high_limit F.characteristic F.degree) high k.2.0 k.2.1 in
       record {
-        layout = subst (λ ys. Layout (marks p e t c vs) ys bs) (lines_end 0 vs left m.0 m.1) laid;
-        least = subst (λ z. t.least ≤ℤ z) same-c k.0;
-        greatest = subst (λ z. z ≤ℤ t.greatest) same-c k.1;
-        count = ap length (sym are) ∙ r.count;
-        parts = subst (AllByRecursion (IsPart p e)) are r.parts;
+        values = (l.value, h.value) ∷ r.values;
+        are = (λ i. l.is i ∷ h.is i ∷ r.are i);
+        count = ap suc r.count;
+        parts = ((l.small, high_fits F.characteristic F.degree l.value h.value l.small h.small, high_only F.characteristic F.degree h.value h.small), r.parts);
       }
 
-  says : (c : ℤ) (vs : List (ℕ × ℕ)) (o : Passed) → Traced (due p e t) [] (cursor_start bs) o → concluded o ≡ Ok (c, vs) → PartSheet p e t c vs bs
-  says c vs (Err r) b h = absurd (let q : ◌≡◌ {A = ℕ} 0 1 = cc in omega arith)
-  says c vs (Ok q) r h =
-      let same = same_ok h in
-      stated c vs r.numbers q.1.rest (ap (λ zs. get_or zs 0 (pos 0)) (sym r.all) ∙ ap (λ w. w.0) same) (ap (λ zs. paired (drop 1 zs)) (sym r.all) ∙ ap (λ w. w.1) same) r.ranges r.layout
+  lines_in_ranges : (j n : ℕ) (vs : List (ℕ × ℕ)) → length vs ≡ n → AllByRecursion IsPair vs → InRanges (whole_form (value_lines F j n)) (part_numbers vs)
+  lines_in_ranges j zero [] c ps = refl
+  lines_in_ranges j zero (v ∷ vs) c ps = absurd (omega arith)
+  lines_in_ranges j (suc n) [] c ps = absurd (omega arith)
+  lines_in_ranges j (suc n) (v ∷ vs) c ps =
+      let p = ps.0 in (
+        below_least v.0,
+        below_most F.characteristic v.0 p.0,
+        (below_least v.1, below_most (high_limit F.characteristic F.degree) v.1 (below_limit F.characteristic F.degree v.0 v.1 p.0 p.1 p.2), lines_in_ranges (suc j) n vs (omega arith) ps.1),
+      )
 
-  -- what is parsed is a sheet
-  pub sheet_from : (c : ℤ) (vs : List (ℕ × ℕ)) → parsed p e t bs ≡ Ok (c, vs) → PartSheet p e t c vs bs
-  sheet_from c vs h = says c vs (pass (due p e t) [] (cursor_start bs)) (trace (due p e t) [] (cursor_start bs)) h
+  -- the bytes are a sheet that states the claim c and values with these parts
+  pub record PartSheet (t : Terms) (c : ℤ) (vs : List (ℕ × ℕ)) (bs : List ℕ) : Type 0 where
+    pub layout : Layout (marks (whole_form (sheet_lines F t)) (c ∷ part_numbers vs)) [] bs
+    pub least : t.least ≤ℤ c
+    pub greatest : c ≤ℤ t.greatest
+    pub count : length vs ≡ suc t.degree
+    pub parts : AllByRecursion IsPair vs
 
-  -- a sheet is parsed
-  pub parsed_from : (c : ℤ) (vs : List (ℕ × ℕ)) → PartSheet p e t c vs bs → parsed p e t bs ≡ Ok (c, vs)
-  parsed_from c vs s =
-      let k = kept_lines p e 0 (suc t.degree) vs s.count s.parts in
-      let l = subst (λ ms. Layout (head_marks p e t c ++ ms) [] bs) (sym (marks_lines p e 0 (suc t.degree) vs s.count)) s.layout in
-      let a = arrive (due p e t) [] [] (c ∷ flat vs) (cursor_start bs) [] (s.least, s.greatest, k) l in
-      ap (λ ds. concluded (pass ds [] (cursor_start bs))) (sym (append-nil (due p e t)))
-      ∙ ap concluded (a.passes ∙ pass_none (c ∷ flat vs) a.at)
-      ∙ ap (λ ws. Ok (c, ws)) (paired_flat vs)
+  module _ (t : Terms) (bs : List ℕ) (c : ℤ) (vs : List (ℕ × ℕ)) where
+    -- numbers that are stated, as a claim and parts
+    says : (zs : List ℤ) → InRanges (whole_form (sheet_lines F t)) zs → Layout (marks (whole_form (sheet_lines F t)) zs) [] bs → get_or zs 0 (pos 0) ≡ c → paired (drop 1 zs) ≡ vs → PartSheet t c vs bs
+    says [] k l same-c same-vs = absurd k
+    says (d ∷ zs) k l same-c same-vs =
+        let r = lined 0 (suc t.degree) zs k.2 in
+        let are : r.values ≡ vs = sym (paired_numbers r.values) ∙ ap paired (sym r.are) ∙ same-vs in
+        record {
+          layout = subst (λ ys. Layout (marks (whole_form (sheet_lines F t)) ys) [] bs) ((λ i. same-c i ∷ r.are i) ∙ ap (λ ws. c ∷ part_numbers ws) are) l;
+          least = subst (λ z. t.least ≤ℤ z) same-c k.0;
+          greatest = subst (λ z. z ≤ℤ t.greatest) same-c k.1;
+          count = ap length (sym are) ∙ r.count;
+          parts = subst (AllByRecursion IsPair) are r.parts;
+        }
+
+    from : (o : Result (List ℤ) Refusal) → form_reading (sheet_lines F t) bs ≡ o → concluded o ≡ Ok (c, vs) → PartSheet t c vs bs
+    from (Err r) e h = absurd (let q : ◌≡◌ {A = ℕ} 0 1 = cc in omega arith)
+    from (Ok zs) e h =
+        let s = (reads_forms (sheet_lines F t) bs zs).0 e in
+        let same = same_ok h in
+        says zs s.ranges s.layout (ap (λ w. w.0) same) (ap (λ w. w.1) same)
+
+    -- what is parsed is a sheet
+    pub sheet_from : parsed F t bs ≡ Ok (c, vs) → PartSheet t c vs bs
+    sheet_from h = from (form_reading (sheet_lines F t) bs) refl h
+
+    -- a sheet is parsed
+    pub parsed_from : PartSheet t c vs bs → parsed F t bs ≡ Ok (c, vs)
+    parsed_from s =
+        ap concluded ((reads_forms (sheet_lines F t) bs (c ∷ part_numbers vs)).1 (record { ranges = (s.least, s.greatest, lines_in_ranges 0 (suc t.degree) vs s.count s.parts); layout = s.layout }))
+        ∙ ap (λ ws. Ok (c, ws)) (paired_numbers vs)

@@ -6,3 +6,4 @@ pub mod Passes
 pub mod Seen
 pub mod Traces
 pub mod Forms
+pub mod Lines

@@ -48,7 +48,7 @@ passed_one kept (Ok None) s = Ok (kept, s)
 passed_one kept (Ok (Some z)) s = Ok (kept ++ z ∷ [], s)
 passed_one kept (Err r) s = Err r
 
--- the answer for items that state these numbers, of a reader that is now at s
-abbrev pub passed_with : {X : Type 0} → List ℤ → List ℤ → Result X Refusal → Cursor → Passed
-passed_with kept numbers (Ok x) s = Ok (kept ++ numbers, s)
-passed_with kept numbers (Err r) s = Err r
+-- the answer for items, of a reader that is now at s, with the numbers of an answer kept
+abbrev pub passed_with : {X : Type 0} → (X → List ℤ) → List ℤ → Result X Refusal → Cursor → Passed
+passed_with numbers kept (Ok x) s = Ok (kept ++ numbers x, s)
+passed_with numbers kept (Err r) s = Err r

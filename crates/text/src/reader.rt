@@ -88,7 +88,7 @@ impl<'a> Reader<'a> {
     pub fn pass(&mut self, items: &[Item], numbers: &mut [i64]) -> Result<(), Refusal>
         requires { stated_count (map item_of items.now) ≤ length numbers.old }
         ensures read { (kept : List ℤ)
-            → passed_with kept (take (stated_count (map item_of items.now)) numbers.new) result self.new
+            → passed_with (λ _. take (stated_count (map item_of items.now)) numbers.new) kept result self.new
             ≡ items_pass (map item_of items.now) kept self.old }
         ensures ranges { OnOk result
             (InRanges (map item_of items.now) (take (stated_count (map item_of items.now)) numbers.new)) }
