@@ -1,5 +1,5 @@
 -- The items of a form, and a pass of tokens against them. Assumes nothing.
-use Rattle.std.specs.Prelude.{ℕ, ◌+◌, Bool, cond, ◌&&◌, List, [], ◌∷◌, ◌++◌, ℤ, pos, Ok, Err, codes, Result, int_le}
+use Rattle.std.specs.Prelude.{ℕ, ◌+◌, Bool, cond, ◌&&◌, List, [], ◌∷◌, ◌++◌, take, ℤ, pos, Ok, Err, codes, Result, int_le}
 use Rattle.refusal.specs.declared.fault.Fault.{Fault}
 use Rattle.refusal.specs.declared.fault.Fault.TheVariants as fault
 use Rattle.refusal.specs.declared.refusal.Refusal.{Refusal}
@@ -38,6 +38,10 @@ stated_count_of (stated lo hi f) = 1
 abbrev pub stated_count : List Item → ℕ
 stated_count [] = 0
 stated_count (d ∷ ds) = stated_count_of d + stated_count ds
+
+-- the numbers in front, as many as are stated where items stand
+abbrev pub stated_front : List Item → List ℤ → List ℤ
+stated_front ds zs = take (stated_count ds) zs
 
 -- the token of what is written in one way
 abbrev pub fixed_token : Fixed → Token

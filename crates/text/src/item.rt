@@ -28,10 +28,11 @@ pub enum Item {
 impl Item {
     ghost use Rattle.text.specs.Meanings.{token_of, item_of, verdict_of, given_count};
 
-    // The number that a token states where this is next, if one is stated there; or the token's fault.
+    // The number that is stated by a token where this is next, if one is; or the token's fault.
     pub(crate) fn check(self, token: Token<'_>) -> Result<Option<i64>, Fault>
         ensures verdict { verdict_of result ≡ item_verdict (item_of self) (token_of token.entry) }
-        ensures count { IfOk result (λ number. given_count number ≡ stated_count_of (item_of self)) }
+        ensures count { IfOk result
+            (λ number. given_count number ≡ stated_count_of (item_of self)) }
     {
         match (self, token) {
             (_, Token::Malformed(_)) => Err(Fault::Malformed),
