@@ -38,6 +38,10 @@ module _ {K : Type 0} (F : FieldModel K) where
   value_lines j zero = end_line
   value_lines j (suc n) = value_line j ++ value_lines (suc j) n
 
-  -- all lines: the first, the claim's, a value line for each of degree + 1 values, and the last
+  -- all lines of a sheet with n values: the first, the claim's, the value lines and the last
+  abbrev pub counted_lines : Terms → ℕ → List Item
+  counted_lines t n = sheet_line t ++ (claim_line t ++ value_lines 0 n)
+
+  -- all lines of a sheet, which has degree + 1 values
   abbrev pub sheet_lines : Terms → List Item
-  sheet_lines t = sheet_line t ++ (claim_line t ++ value_lines 0 (suc t.degree))
+  sheet_lines t = counted_lines t (suc t.degree)

@@ -8,6 +8,12 @@ pub data Mark : Type 0 where
   fixed : Fixed → Mark
   number : ℤ → Mark
 
+-- the mark of an item, where the number that may be stated there is z
+abbrev pub item_mark : Item → ℤ → Mark
+item_mark (the x) z = fixed x
+item_mark (given n f) z = number (pos n)
+item_mark (stated lo hi f) z = number z
+
 -- the marks of items that state the numbers zs
 abbrev pub marks : List Item → List ℤ → List Mark
 marks [] zs = []
