@@ -1,5 +1,6 @@
-pub mod Papers
 pub mod Small
+pub mod Papers
 pub mod Texts
+pub mod Lines
 pub mod Lengths
 pub mod Wholes
