@@ -10,7 +10,7 @@ use Rattle.field.proofs.Consequences.{limit_small}
 use Rattle.polynomial.proofs.Sums.{length-listed}
 use Rattle.question.specs.Question.{QuestionModel}
 use Rattle.protocol.specs.Asking.{suits, terms_of, honest}
-use Rattle.writer.specs.declared.writer.TheConstants.{ENOUGH_PAPER}
+use Rattle.writer.specs.declared.limits.TheConstants.{ENOUGH_PAPER}
 use Rattle.writer.specs.Papers.{write_answer, paper_after}
 use Rattle.writer.specs.Texts.{text}
 use Rattle.host.specs.Rows.{Ranged}
