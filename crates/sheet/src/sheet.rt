@@ -82,7 +82,8 @@ pub fn read_sheet<F: Field>(sheet: &[u8], terms: &Terms, tray: &mut [F]) -> Resu
     ensures answer { result ≡ read_answer F.Field.model terms.now sheet.now tray.old }
     ensures tray { tray.new ≡ tray_after F.Field.model terms.now sheet.now tray.old }
 
-    // What it gives the bytes state, what they state it gives, and a fault that it tells is the first.
+    // What it gives the bytes state, what they state it gives, and a fault that it tells is their
+    // first.
     ensures states { IfOk result (λ claim.
         Sheet F.Field.model terms.now claim (take (suc terms.now.degree) tray.new) sheet.now) }
     ensures gives { (claim : ℤ) (values : List F) → terms.now.degree < length tray.old

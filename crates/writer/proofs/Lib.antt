@@ -4,3 +4,4 @@ pub mod Texts
 pub mod Lines
 pub mod Lengths
 pub mod Wholes
+pub mod Pens
