@@ -22,7 +22,7 @@ const PLAN: Plan = Plan {
 // Whether a game differs in which the reference is told another field than the product's.
 fn differs(heap: Global, field: Arithmetic) -> Result<bool, Stop> {
     let mut table = Table::new(heap, 99);
-    table.source.field = field;
+    table.source.set_field(field);
     play::<Mod65537>(&mut table, PLAN)?;
     Ok(table.report.differing() > 0)
 }
@@ -30,10 +30,10 @@ fn differs(heap: Global, field: Arithmetic) -> Result<bool, Stop> {
 // Whether the products of an extension differ from those with another t × t.
 fn multiplies_otherwise(heap: Global) -> bool {
     let mut table = Table::new(heap, 99);
-    table.source.field = Arithmetic {
+    table.source.set_field(Arithmetic {
         w: 5,
         ..Arithmetic::MOD_65537.extended()
-    };
+    });
     compare_arithmetic::<Mod65537x2>(&mut table, 5);
     table.report.differing() > 0
 }

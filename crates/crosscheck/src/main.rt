@@ -2,7 +2,7 @@
 //! everything that both say and leave behind, and prints what was compared. Any difference fails the run.
 #![tactic(auto)]
 
-mod fields;
+mod over_fields;
 mod prints;
 mod rounds;
 
@@ -16,7 +16,7 @@ const SEED: u64 = 20_240_917;
 fn run(rt: &HostRuntime) -> anyhow::Result<()> {
     let heap = rt.alloc();
     let mut table = Table::new(heap, SEED);
-    fields::play_all(&mut table)?;
+    over_fields::play_all(&mut table)?;
     prints::print_report(rt, &table.report)?;
     let (seen, planted) = see_planted(heap).map_err(|_| anyhow!(
         "no memory for a planted difference"

@@ -29,6 +29,11 @@ impl Source {
         }
     }
 
+    /// From here on everything is drawn over this field.
+    pub fn set_field(&mut self, field: Arithmetic) {
+        self.field = field;
+    }
+
     /// The reference's game that stands so.
     pub fn game(&self, at: Standing) -> Game {
         Game {

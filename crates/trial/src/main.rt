@@ -8,8 +8,8 @@ mod count_table;
 mod damage;
 mod element;
 mod ends;
+mod field_list;
 mod field_words;
-mod fields;
 mod game;
 mod page;
 mod questions;
@@ -21,7 +21,7 @@ mod trials;
 mod verdict;
 
 fn run(rt: &HostRuntime) -> anyhow::Result<()> {
-    fields::print(rt)?;
+    field_list::print(rt)?;
     game::play(rt)?;
     cheats::print(rt)?;
     damage::print(rt)?;

@@ -24,7 +24,7 @@ impl<'a> FieldTask for Everything<'a> {
 pub fn play_all(table: &mut Table) -> anyhow::Result<()> {
     for base in [Arithmetic::MOD_65537, Arithmetic::MERSENNE_31] {
         for field in [base, base.extended()] {
-            table.source.field = field;
+            table.source.set_field(field);
             let played = with_field(field.p, field.e, Everything { table: &mut *table })?;
             played.map_err(|_| anyhow!("no memory for a game"))?;
         }
