@@ -24,7 +24,7 @@ fn print_call(rt: &impl Print, report: &Report, call: Call) -> io::Result<()> {
     println!(rt; "")
 }
 
-// How often a refusal's number came, from any call, is not nothing.
+// Whether a refusal's number came, from any call.
 fn came(report: &Report, number: u64) -> bool {
     Call::ALL
         .iter()
