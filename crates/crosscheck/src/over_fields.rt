@@ -20,7 +20,7 @@ impl<'a> FieldTask for Everything<'a> {
     }
 }
 
-// Plays everything over each base field and over its extension.
+/// Plays everything over each base field and over its extension.
 pub fn play_all(table: &mut Table) -> anyhow::Result<()> {
     for base in [Arithmetic::MOD_65537, Arithmetic::MERSENNE_31] {
         for field in [base, base.extended()] {

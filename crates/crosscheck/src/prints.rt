@@ -56,7 +56,7 @@ fn print_differences(rt: &impl Print, report: &Report) -> io::Result<()> {
     println!(rt; "{games} games, {compared} comparisons, {differing} differences")
 }
 
-// What each call came to, what was compared, and whether every refusal came.
+/// What each call came to, what was compared, and whether every refusal came.
 pub fn print_report(rt: &impl Print, report: &Report) -> anyhow::Result<()> {
     for call in Call::ALL {
         print_call(rt, report, call)?;

@@ -69,7 +69,7 @@ fn play_games<F: Field>(table: &mut Table, small: u64) -> Result<(), Stop> {
     play::<F>(table, Plan::LARGEST)
 }
 
-// Everything, over one field.
+/// Everything, over one field.
 pub fn play_field<F: Field>(table: &mut Table) -> Result<(), Stop> {
     compare_arithmetic::<F>(table, 500);
     play_worked_points::<F>(table)?;
