@@ -7,7 +7,8 @@ use Rattle.refusal.specs.declared.refusal.Refusal.{Refusal}
 use Rattle.token.specs.Tokens.{cursor_start}
 use Rattle.sheet.specs.declared.terms.Terms.{Terms}
 use Rattle.expect.specs.Dues.{Passed, pass}
-use Rattle.sheet.specs.Readings.{high_limit, due, lines, paired, concluded, parsed}
+use Rattle.field.specs.Field.{high_limit}
+use Rattle.sheet.specs.Readings.{due, lines, paired, concluded, parsed}
 use Rattle.sheet.proofs.Fills.{flat, paired_flat}
 use Rattle.sheet.proofs.Passes.{high_fits, high_only}
 use Rattle.layout.specs.Marks.{Mark, head_marks, value_marks, line_marks, marks, Layout}

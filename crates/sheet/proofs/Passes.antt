@@ -3,11 +3,12 @@ use Rattle.std.proofs.Common.{◌≡◌, ℕ, ◌<◌, List, [], ◌∷◌, ◌+
 use Rattle.std.proofs.lemmas.Bool.Decides.{nat_tests}
 use Rattle.refusal.specs.declared.fault.Fault.TheVariants as fault
 use Rattle.refusal.specs.declared.refusal.Refusal.{Refusal}
+use Rattle.field.specs.Field.{high_limit}
 use Rattle.token.specs.Tokens.{Cursor}
 use Rattle.expect.specs.Dues.{Due.within, part_below, step, pass}
 use Rattle.expect.proofs.Passes.{on_first, stop_step, on_step}
 use Rattle.sheet.specs.declared.terms.Terms.{Terms}
-use Rattle.sheet.specs.Readings.{high_limit, front, form_end, claim_due, line_front, line_back, value_line}
+use Rattle.sheet.specs.Readings.{front, form_end, claim_due, line_front, line_back, value_line}
 
 -- a value line, part by part, with the limits of both parts as the code has them
 module _ (p e j l h : ℕ) (low_is : l ≡ p) (high_is : h ≡ high_limit p e) (kept : List ℤ) (s₀ s₁ : Cursor) (began : Ok (kept, s₁) ≡ pass (line_front j) kept s₀) where

@@ -1,6 +1,6 @@
 -- The grammar of a sheet as one list of what is due, and what reading a sheet gives. Assumes nothing.
 use Rattle.std.specs.Prelude.{◌≡◌, ℕ, zero, suc, cond, List, [], ◌∷◌, ◌++◌, map, length, drop, ℤ, pos, Ok, Err, Result, ◌==◌, nat_lt, slice_index_or, unsigned_abs}
-use Rattle.field.specs.Field.{FieldModel}
+use Rattle.field.specs.Field.{FieldModel, high_limit}
 use Rattle.board.specs.Banks.{filled}
 use Rattle.refusal.specs.declared.fault.Fault.TheVariants as fault
 use Rattle.refusal.specs.declared.refusal.Refusal.{Refusal}
@@ -9,10 +9,6 @@ use Rattle.token.specs.Tokens.{cursor_start}
 use Rattle.expect.specs.declared.keyword.Keyword.TheVariants.{Sheet, Grid, Claim, At, End}
 use Rattle.sheet.specs.declared.terms.Terms.{Terms}
 use Rattle.expect.specs.Dues.{Fixed.opening, Fixed.closing, Fixed.line_end, Fixed.sheet_end, Fixed.word, Due, Due.the, Due.equal, Due.within, part_below, Passed, pass}
-
--- high parts are below this, at characteristic p and degree e: 0 alone where e is 1
-abbrev pub high_limit : ℕ → ℕ → ℕ
-high_limit p e = cond (e == 1) 1 p
 
 -- the sheet's line, and the claim's line up to the claim, at characteristic p and degree e
 abbrev pub front : ℕ → ℕ → Terms → List Due

@@ -1,7 +1,7 @@
 // The lines of a sheet, read in order.
 ghost use Rattle.std.specs.Prelude.{◌≡◌, ◌<◌, List, ℤ, IfOk};
 ghost use Rattle.expect.specs.Dues.{pass};
-ghost use Rattle.sheet.specs.Readings.{high_limit, value_line, claim_due, ending};
+ghost use Rattle.sheet.specs.Readings.{value_line, claim_due, ending};
 ghost use Rattle.expect.specs.Expectations.{passed_on, passed_number, passed_parts};
 
 use crate::terms::Terms;
@@ -9,17 +9,6 @@ use refusal::{Fault, Refusal};
 use expect::{Due, Keyword, number, part, pass};
 use field::Field;
 use token::Reader;
-
-// High parts are below this.
-fn high_limit<F: Field>() -> u32
-    ensures { result ≡ high_limit F.Field.model.characteristic F.Field.model.degree }
-{
-    if F::degree() == 1 {
-        1
-    } else {
-        F::characteristic()
-    }
-}
 
 // Reads the sheet's line and the claim's line.
 pub(crate) fn claim_lines<F: Field>(reader: &mut Reader<'_>, terms: &Terms) -> Result<i64, Refusal>
@@ -30,8 +19,8 @@ pub(crate) fn claim_lines<F: Field>(reader: &mut Reader<'_>, terms: &Terms) -> R
         &[
             Due::Open,
             Due::Word(Keyword::Sheet),
-            Due::Number(F::characteristic(), Fault::Field),
-            Due::Number(F::degree(), Fault::Field),
+            Due::Number(F::CHARACTERISTIC, Fault::Field),
+            Due::Number(F::DEGREE, Fault::Field),
             Due::Open,
             Due::Word(Keyword::Grid),
             Due::Number(terms.rows, Fault::Grid),
@@ -69,8 +58,8 @@ pub(crate) fn value_line<F: Field>(reader: &mut Reader<'_>, j: u32) -> Result<(u
             Due::Open,
         ],
     )?;
-    let low = part(reader, F::characteristic())?;
-    let high = part(reader, high_limit::<F>())?;
+    let low = part(reader, F::CHARACTERISTIC)?;
+    let high = part(reader, F::high_limit())?;
     pass(reader, &[Due::Close, Due::Close, Due::LineEnd])?;
     Ok((low, high))
 }

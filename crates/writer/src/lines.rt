@@ -19,8 +19,8 @@ impl Pen<'_> {
         self.marks(&[
             Mark::Open,
             Mark::Word(Keyword::Sheet),
-            Mark::Natural(u64::from(F::characteristic())),
-            Mark::Natural(u64::from(F::degree())),
+            Mark::Natural(u64::from(F::CHARACTERISTIC)),
+            Mark::Natural(u64::from(F::DEGREE)),
             Mark::Open,
             Mark::Word(Keyword::Grid),
             Mark::Natural(u64::from(terms.rows)),

@@ -10,7 +10,7 @@ use Rattle.sheet.proofs.lines.claim_lines.Goals as goal
 pub returns-in_err-pass : goal.returns-in_err-pass
 returns-in_err-pass g c =
     let p = err_from_is_err_and c.from_residual.result c.from_residual.ensures.1 in
-    rw (p.1, p.2) (λ kept. stop_first (front c.characteristic.result c.degree.result c.args.terms.now) _ kept _ _ (c.in_err-pass.ensures.read kept) ∙ claim_as c.characteristic.ensures c.degree.ensures c.args.terms.now kept c.args.reader.now)
+    rw (p.1, p.2) (λ kept. stop_first (front c.CHARACTERISTIC.result c.DEGREE.result c.args.terms.now) _ kept _ _ (c.in_err-pass.ensures.read kept) ∙ claim_as (c.CHARACTERISTIC.ensures ∙ g.met.F.Field.characteristic_is) (c.DEGREE.ensures ∙ g.met.F.Field.degree_is) c.args.terms.now kept c.args.reader.now)
 
 pub returns-in_err-claim : goal.returns-in_err-claim
 returns-in_err-claim g c =
@@ -19,8 +19,8 @@ returns-in_err-claim g c =
     let lo = to_z w64 (of_z w64 t.least) in
     let hi = to_z w64 (of_z w64 t.greatest) in
     rw (p.1, p.2)
-    (λ kept. stop_claim c.characteristic.result c.degree.result t lo hi kept _ _ (c.in_ok-pass.ensures.read kept) _ (c.in_err-claim.ensures.read kept) (to_z-of_z w64 t.least (search rules)) (to_z-of_z w64 t.greatest (search rules))
-    ∙ claim_as c.characteristic.ensures c.degree.ensures c.args.terms.now kept c.args.reader.now)
+    (λ kept. stop_claim c.CHARACTERISTIC.result c.DEGREE.result t lo hi kept _ _ (c.in_ok-pass.ensures.read kept) _ (c.in_err-claim.ensures.read kept) (to_z-of_z w64 t.least (search rules)) (to_z-of_z w64 t.greatest (search rules))
+    ∙ claim_as (c.CHARACTERISTIC.ensures ∙ g.met.F.Field.characteristic_is) (c.DEGREE.ensures ∙ g.met.F.Field.degree_is) c.args.terms.now kept c.args.reader.now)
 
 pub returns-in_err-pass-2 : goal.returns-in_err-pass-2
 returns-in_err-pass-2 g c =
@@ -30,8 +30,8 @@ returns-in_err-pass-2 g c =
     rw (p.1, p.2)
     (λ kept.
     c.in_err-pass-2.ensures.read (kept ++ c.in_ok-claim.claim ∷ [])
-    ∙ at_form_end c.characteristic.result c.degree.result c.args.terms.now _ _ kept _ _ (c.in_ok-pass.ensures.read kept) _ _ (c.in_ok-claim.ensures.read kept) (to_z-of_z w64 _ f) (to_z-of_z w64 _ k)
-    ∙ claim_as c.characteristic.ensures c.degree.ensures c.args.terms.now kept c.args.reader.now)
+    ∙ at_form_end c.CHARACTERISTIC.result c.DEGREE.result c.args.terms.now _ _ kept _ _ (c.in_ok-pass.ensures.read kept) _ _ (c.in_ok-claim.ensures.read kept) (to_z-of_z w64 _ f) (to_z-of_z w64 _ k)
+    ∙ claim_as (c.CHARACTERISTIC.ensures ∙ g.met.F.Field.characteristic_is) (c.DEGREE.ensures ∙ g.met.F.Field.degree_is) c.args.terms.now kept c.args.reader.now)
 
 pub returns : goal.returns
 returns g c =
@@ -41,5 +41,5 @@ returns g c =
     λ kept.
     ap (λ z. Ok (kept ++ z ∷ [], c.pass-2.new.reader)) (to_z-of_z w64 c.in_ok-claim.claim h)
     ∙ c.in_ok-pass-2.ensures.read (kept ++ c.in_ok-claim.claim ∷ [])
-    ∙ at_form_end c.characteristic.result c.degree.result c.args.terms.now _ _ kept _ _ (c.in_ok-pass.ensures.read kept) _ _ (c.in_ok-claim.ensures.read kept) (to_z-of_z w64 _ f) (to_z-of_z w64 _ k)
-    ∙ claim_as c.characteristic.ensures c.degree.ensures c.args.terms.now kept c.args.reader.now
+    ∙ at_form_end c.CHARACTERISTIC.result c.DEGREE.result c.args.terms.now _ _ kept _ _ (c.in_ok-pass.ensures.read kept) _ _ (c.in_ok-claim.ensures.read kept) (to_z-of_z w64 _ f) (to_z-of_z w64 _ k)
+    ∙ claim_as (c.CHARACTERISTIC.ensures ∙ g.met.F.Field.characteristic_is) (c.DEGREE.ensures ∙ g.met.F.Field.degree_is) c.args.terms.now kept c.args.reader.now
