@@ -42,4 +42,5 @@ returns g c =
     let one : d + 1 ≡ suc d = omega arith in
     let rest : drop c.columns.result c.split_at_mut-values.result.1.now ≡ drop (suc d + v) c.args.tray.now =
     ap₂ drop c.columns.ensures (c.split_at_mut-values.ensures.back ∙ ap (λ n. drop n c.args.tray.now) one) ∙ drop-drop v (suc d) c.args.tray.now in
-    ap₂ ◌++◌ (values ∙ ap (λ n. listed 0 (suc n) (λ k. q.rule h v (node F k) (columns F h v fs (node F k)))) c.args.asked.now.stated) (ap₂ ◌++◌ sums rest)
+    ap₂ ◌++◌ values (ap₂ ◌++◌ sums rest)
+    ∙ ap (λ n. listed 0 (suc n) (λ k. q.rule h v (node F k) (columns F h v fs (node F k))) ++ (columns F h v fs (node F n) ++ drop (suc n + v) c.args.tray.now)) c.args.asked.now.stated
