@@ -2,7 +2,7 @@
 use Rattle.std.proofs.Common.{◌≡◌, ℕ, zero, suc, ◌+◌, ◌<◌, ◌≤◌, ◌≢◌, ◌⊎◌, List, [], ◌∷◌, length, get_or, sym, refl, ap, ◌∙◌, ap₂, inl, inr, arith}
 use Rattle.field.specs.Field.{FieldModel, LawfulField}
 use Rattle.polynomial.specs.Polynomials.{sub, eval, scaled, poly_add, poly_mul, Root, Nonzero}
-use Rattle.polynomial.specs.Interpolation.{except, node, factor, chi, linear, basis, blend, interpolant, Takes, LagrangeBasis, Interpolation}
+use Rattle.polynomial.specs.Interpolation.{except, node, factor, chi, linear, basis, blend, interpolant, TakesValues, LagrangeBasis, Interpolation}
 use Rattle.field.proofs.Solver.{sides, solve, mul-zero, zero-mul, zero-add}
 use Rattle.field.proofs.Sameness.{decided}
 use Rattle.field.proofs.Consequences.{one_not_zero}
@@ -156,5 +156,5 @@ module _ {K : Type 0} {F : FieldModel K} (L : LawfulField F) where
     only = λ q c t. agree (length vs) q (interpolant F vs) b c (length_blend (length vs) 0 vs (omega arith)) (λ k d. t k d ∙ sym (takes k d));
   }
     where
-      takes : Takes F (interpolant F vs) vs
+      takes : TakesValues F (interpolant F vs) vs
       takes k c = eval_blend (length vs) 0 vs (node F k) ∙ mixed_at (length vs) 0 vs k k b (omega arith) c

@@ -3,7 +3,7 @@ use Rattle.std.proofs.Common.{◌≡◌, ℕ, zero, suc, ◌+◌, ◌<◌, ◌�
 use Rattle.field.specs.Field.{FieldModel, LawfulField}
 use Rattle.polynomial.specs.Polynomials.{sub}
 use Rattle.polynomial.specs.Interpolation.{except, node, chi}
-use Rattle.polynomial.specs.OnePass.{lead, next_weight, pass, OnePass}
+use Rattle.polynomial.specs.OnePass.{first_weight, next_weight, pass_from, OnePass}
 use Rattle.field.proofs.Solver.{sides, solve, mul_left, zero-mul, zero-add, one-mul, neg-zero}
 use Rattle.polynomial.proofs.Nodes.{node_add, sub_nonzero}
 use Rattle.polynomial.proofs.Excepts.{eqb_cases, except_same, except_other}
@@ -115,12 +115,12 @@ module _ {K : Type 0} {F : FieldModel K} (L : LawfulField F) where
       W : K
       W = weight F d j
 
-  lead_weight : (d : ℕ) → lead F d ≡ weight F (suc d) 0
-  lead_weight zero = refl
-  lead_weight (suc d) = ap (F.mul (F.inv (sub F (node F 0) (node F (suc d))))) (lead_weight d) ∙ sym (other _ (suc d) 0 (omega arith))
+  first_weight_lem : (d : ℕ) → first_weight F d ≡ weight F (suc d) 0
+  first_weight_lem zero = refl
+  first_weight_lem (suc d) = ap (F.mul (F.inv (sub F (node F 0) (node F (suc d))))) (first_weight_lem d) ∙ sym (other _ (suc d) 0 (omega arith))
 
   -- ---- the pass
-  pass_sound : (d : ℕ) (X : K) (vs : List K) (j : ℕ) (w l acc : K) → suc d ≡ j + length vs → d ≤ 65536 → l ≡ full F j X → (j ≤ d → w ≡ weight F (suc d) j) → pass F d X vs j w l acc ≡ F.add (F.mul acc (span F j (length vs) X)) (mixed L (suc d) j vs X)
+  pass_sound : (d : ℕ) (X : K) (vs : List K) (j : ℕ) (w l acc : K) → suc d ≡ j + length vs → d ≤ 65536 → l ≡ full F j X → (j ≤ d → w ≡ weight F (suc d) j) → pass_from F d X vs j w l acc ≡ F.add (F.mul acc (span F j (length vs) X)) (mixed L (suc d) j vs X)
   pass_sound d X [] j w l acc e h hl hw = solve L.ring (acc ∷ []) (search sides depth 30) refl
   pass_sound d X (v ∷ vs) j w l acc e h hl hw =
       pass_sound d X vs (suc j) (next_weight F d j w) (F.mul l s)
@@ -146,6 +146,6 @@ module _ {K : Type 0} {F : FieldModel K} (L : LawfulField F) where
 
   pub one_pass_lem : OnePass F
   one_pass_lem v vs X h =
-      pass_sound (length vs) X (v ∷ vs) 0 (lead F (length vs)) F.one F.zero (omega arith) h refl (λ b. lead_weight (length vs))
+      pass_sound (length vs) X (v ∷ vs) 0 (first_weight F (length vs)) F.one F.zero (omega arith) h refl (λ b. first_weight_lem (length vs))
       ∙ ap (λ a. F.add a (mixed L (suc (length vs)) 0 (v ∷ vs) X)) (zero-mul L.ring _) ∙ zero-add L.ring _
       ∙ sym (eval_blend L (suc (length vs)) 0 (v ∷ vs) X)

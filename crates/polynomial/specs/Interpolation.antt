@@ -1,12 +1,12 @@
 -- Polynomials through given values at the nodes 0, 1, 2, .. of a field. Assumes nothing.
-use Rattle.std.specs.Prelude.{◌≡◌, ℕ, zero, suc, ◌<◌, ◌≤◌, cond, ◌≢◌, List, [], ◌∷◌, length, pos, ◌==◌, slice_index_or}
+use Rattle.std.specs.Prelude.{◌≡◌, ℕ, zero, suc, ◌<◌, ◌≤◌, if◌then◌else◌, ◌≢◌, List, [], ◌∷◌, length, pos, ◌==◌, slice_index_or}
 use Rattle.field.specs.Field.{FieldModel}
 use Rattle.polynomial.specs.Polynomials.{sub, eval, scaled, poly_add, poly_mul}
 
 -- f (n − 1) op (.. op (f 0 op unit)), without f x
 abbrev pub except : {A : Type 0} → (A → A → A) → A → (ℕ → A) → ℕ → ℕ → A
 except op unit f zero x = unit
-except op unit f (suc k) x = cond (k == x) (except op unit f k x) (op (f k) (except op unit f k x))
+except op unit f (suc k) x = if k == x then except op unit f k x else op (f k) (except op unit f k x)
 
 module _ {K : Type 0} (F : FieldModel K) where
   -- the node k: the element that k stands for
@@ -39,8 +39,8 @@ module _ {K : Type 0} (F : FieldModel K) where
   interpolant vs = blend (length vs) 0 vs
 
   -- the polynomial takes these values at the nodes 0, 1, 2, ..
-  abbrev pub Takes : List K → List K → Type 0
-  Takes p vs = (k : ℕ) → k < length vs → eval F p (node k) ≡ slice_index_or vs k F.zero
+  abbrev pub TakesValues : List K → List K → Type 0
+  TakesValues p vs = (k : ℕ) → k < length vs → eval F p (node k) ≡ slice_index_or vs k F.zero
 
 -- χ_x on h rows is a polynomial of degree h − 1, and no less, one at x and zero at the other rows
 pub record IsBasis {K : Type 0} (F : FieldModel K) (h x : ℕ) : Type 0 where
@@ -53,8 +53,8 @@ pub record IsBasis {K : Type 0} (F : FieldModel K) (h x : ℕ) : Type 0 where
 -- through n values goes a polynomial with n coefficients at most, and every such polynomial is the same function
 pub record IsInterpolant {K : Type 0} (F : FieldModel K) (vs : List K) : Type 0 where
   pub fits : length (interpolant F vs) ≤ length vs
-  pub takes : Takes F (interpolant F vs) vs
-  pub only : (q : List K) → length q ≤ length vs → Takes F q vs → (X : K) → eval F q X ≡ eval F (interpolant F vs) X
+  pub takes : TakesValues F (interpolant F vs) vs
+  pub only : (q : List K) → length q ≤ length vs → TakesValues F q vs → (X : K) → eval F q X ≡ eval F (interpolant F vs) X
 
 -- this holds of each row
 abbrev pub LagrangeBasis : {K : Type 0} → FieldModel K → Type 0
