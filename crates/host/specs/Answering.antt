@@ -5,7 +5,7 @@ use Rattle.refusal.specs.declared.refusal.Refusal.TheVariants.{BankShort, CountO
 use Rattle.board.specs.Ledger.{abs_sum}
 use Rattle.board.specs.Standing.{Standing}
 use Rattle.field.specs.Field.{FieldModel}
-use Rattle.polynomial.specs.Columns.{columns}
+use Rattle.polynomial.specs.Columns.{columns_at}
 use Rattle.polynomial.specs.Interpolation.{node}
 use Rattle.question.specs.Question.{QuestionModel}
 use Rattle.writer.specs.declared.writer.TheConstants.{ENOUGH_PAPER}
@@ -32,7 +32,7 @@ module _ {K : Type 0} (F : FieldModel K) (h v : ℕ) where
 
   -- the tray of an answer: the honest values, the columns at the degree behind them, and the rest as it was
   abbrev pub tray_filled : QuestionModel K → List ℤ → List K → List K
-  tray_filled q fs tray = honest F h v q fs ++ (columns F h v fs (node F (q.degree h)) ++ drop (suc (q.degree h) + v) tray)
+  tray_filled q fs tray = honest F h v q fs ++ (columns_at F h v fs (node F (q.degree h)) ++ drop (suc (q.degree h) + v) tray)
 
   -- the sheet that states the true count and the honest values
   abbrev pub honest_sheet : QuestionModel K → List ℤ → List ℕ

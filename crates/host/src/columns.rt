@@ -1,7 +1,7 @@
 // The columns of the counts at a node: at a row the images of its counts, and at the other nodes sums in which each row has a weight.
 ghost use Rattle.std.specs.Prelude.{◌≡◌, ◌<◌, ◌≤◌, length};
 ghost use Rattle.field.specs.declared.limits.TheConstants.{INVERSES};
-ghost use Rattle.polynomial.specs.Columns.{columns, row};
+ghost use Rattle.polynomial.specs.Columns.{columns_at, row_images};
 ghost use Rattle.polynomial.specs.Interpolation.{node};
 ghost use Rattle.host.specs.Rows.{added_row, Ranged};
 
@@ -26,7 +26,7 @@ fn add_row<F: Field>(sums: &mut [F], counts: &[i32], weight: F)
 fn fill_columns<F: Field>(sums: &mut [F], counts: &Counts<'_>, point: F)
     requires { length sums.old ≡ counts.now.grid.columns }
     ensures { sums.new
-        ≡ columns F.Field.model counts.now.grid.rows counts.now.grid.columns
+        ≡ columns_at F.Field.model counts.now.grid.rows counts.now.grid.columns
         counts.now.cells.now point }
 {
     let width = sums.len();
@@ -42,7 +42,7 @@ fn fill_row<F: Field>(sums: &mut [F], counts: &Counts<'_>, x: u32)
     requires inside { x < counts.now.grid.rows }
     requires wide { length sums.old ≡ counts.now.grid.columns }
     ensures { sums.new
-        ≡ row F.Field.model counts.now.grid.columns counts.now.cells.now x }
+        ≡ row_images F.Field.model counts.now.grid.columns counts.now.cells.now x }
 {
     let row = counts.row(x);
     // By place, as in `add_row`.
@@ -57,7 +57,7 @@ pub(crate) fn fill_columns_at<F: Field>(sums: &mut [F], counts: &Counts<'_>, x: 
     requires few { x ≤ INVERSES }
     requires wide { length sums.old ≡ counts.now.grid.columns }
     ensures { sums.new
-        ≡ columns F.Field.model counts.now.grid.rows counts.now.grid.columns
+        ≡ columns_at F.Field.model counts.now.grid.rows counts.now.grid.columns
         counts.now.cells.now (node F.Field.model x) }
 {
     if x < counts.grid.rows {

@@ -76,8 +76,7 @@ impl<F: Field> Listening<F> {
         if bank.len() < self.book.grid().cells() as usize {
             return Err(Refusal::BankShort);
         }
-        let mut book = self.book.clone();
-        book.accept(F::LIMIT, m)?;
+        let book = self.book.accepted(F::LIMIT, m)?;
         add_count(bank, F::LIMIT, m)?;
         self.book = book;
         Ok(())

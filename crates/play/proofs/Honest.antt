@@ -8,7 +8,7 @@ use Rattle.board.specs.Books.{open_answer}
 use Rattle.board.specs.Grids.{grid_allowed}
 use Rattle.field.specs.Field.{FieldModel}
 use Rattle.board.specs.Ledger.{ledger}
-use Rattle.polynomial.specs.Columns.{columns}
+use Rattle.polynomial.specs.Columns.{columns_at}
 use Rattle.polynomial.specs.Interpolation.{node}
 use Rattle.protocol.specs.Asking.{honest}
 use Rattle.polynomial.proofs.Sums.{length-listed}
@@ -75,10 +75,10 @@ module _ {K : Type 0} (F : FieldModel K) where
         let given = host_given F (told_host F h v r ms q counts) q tray paper in
         let answer = promised.honest_accepted h v ms (host_run counts host-granted) q order.lawful order.fitting tray order.tray_long paper order.paper_long in
         let fs = (ledger h v F.limit ms).counts in
-        let rest = columns F h v fs (node F (q.degree h)) ++ drop (suc (q.degree h) + v) tray in
+        let rest = columns_at F h v fs (node F (q.degree h)) ++ drop (suc (q.degree h) + v) tray in
         let values : given.tray ≡ honest F h v q fs ++ rest = answer.values in
         let room : suc (q.degree h) ≤ length given.tray =
-        omega (arith, ap length values, length-append (honest F h v q fs) rest, length-listed 0 (suc (q.degree h)) (λ j. q.rule h v (node F j) (columns F h v fs (node F j)))) in
+        omega (arith, ap length values, length-append (honest F h v q fs) rest, length-listed 0 (suc (q.degree h)) (λ j. q.rule h v (node F j) (columns_at F h v fs (node F j)))) in
         ap (λ a. (host_trial F h v r ms q a counts sums tray paper).answer) host-granted
         ∙ ap (λ a. (box_trial F h v r ms q a counts sums tray paper).answer) verifier-granted
         ∙ ap (λ a. (judged_sheet F (told_box F h v r ms q sums) q a given.tray given.paper).answer) answer.answer

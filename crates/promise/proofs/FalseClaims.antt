@@ -7,7 +7,7 @@ use Rattle.refusal.specs.declared.refusal.Refusal.{Refusal}
 use Rattle.board.specs.Grids.{grid_allowed}
 use Rattle.polynomial.specs.Lists.{AnyByRecursion, Distinct}
 use Rattle.std.specs.List.{AllByRecursion}
-use Rattle.polynomial.specs.Columns.{columns}
+use Rattle.polynomial.specs.Columns.{columns_at}
 use Rattle.polynomial.proofs.Counts.{Sorted, sort, split_length, distinct_first, distinct_second}
 use Rattle.question.specs.Question.{Fits, LawfulQuestion}
 use Rattle.protocol.specs.Asking.{is_fit, terms_of}
@@ -43,7 +43,7 @@ module _ {K : Type 0} {F : FieldModel K} (L : LawfulField F) (h v : ℕ) (ms : L
   record AcceptedAt (r : K) (e : Entry K) : Type 0 where
     allowed : grid_allowed h v ≡ true
     claim : ℤ
-    passed : Passed L h v r (columns F h v (counts_of F h v ms) r) e.question e.sheet claim
+    passed : Passed L h v r (columns_at F h v (counts_of F h v ms) r) e.question e.sheet claim
 
   -- one that claims falsely besides
   abbrev FalselyAt : K → Entry K → Type 0
@@ -68,8 +68,8 @@ module _ {K : Type 0} {F : FieldModel K} (L : LawfulField F) (h v : ℕ) (ms : L
       let stated = (reads_sheets F L (terms_of q h v) e.sheet c vs).0 p.reads in
       let unlike = false_unlike L q Q h v fit fs (within F h v ms) c vs stated.least stated.greatest p.adds (claim_false r _ e c p f) in
       unlike_few L q Q h v fit fs vs stated.count unlike (r ∷ rs) d
-      (each_map (λ s. AcceptedAt s e) (λ s. Agree F q h v vs s (columns F h v fs s)) (r ∷ rs)
-      (λ s y. subst (λ ws. Agree F q h v ws s (columns F h v fs s)) (ap values_of (sym y.passed.reads ∙ p.reads)) y.passed.agrees) a)
+      (each_map (λ s. AcceptedAt s e) (λ s. Agree F q h v vs s (columns_at F h v fs s)) (r ∷ rs)
+      (λ s y. subst (λ ws. Agree F q h v ws s (columns_at F h v fs s)) (ap values_of (sym y.passed.reads ∙ p.reads)) y.passed.agrees) a)
 
   -- the points of several sheets are no more than the degrees of those that claim falsely
   entries_few : (es : List (Entry K)) → AllByRecursion (λ e. LawfulQuestion F e.question) es → (rs : List K) → Distinct rs → AllByRecursion (λ r. AnyByRecursion (FalselyAt r) es) rs → length rs ≤ false_degrees F h v ms es

@@ -9,7 +9,7 @@ use Rattle.board.proofs.Grids.{allowed_grid}
 use Rattle.polynomial.specs.Sums.{list_sum}
 use Rattle.polynomial.specs.Polynomials.{eval}
 use Rattle.polynomial.specs.Interpolation.{interpolant}
-use Rattle.polynomial.specs.Columns.{columns}
+use Rattle.polynomial.specs.Columns.{columns_at}
 use Rattle.question.specs.declared.outcome.Fit.{Fit}
 use Rattle.question.specs.declared.outcome.Fit.TheVariants as fit
 use Rattle.question.specs.Question.{QuestionModel, Fits, Within, LawfulQuestion}
@@ -111,10 +111,10 @@ module _ {K : Type 0} {F : FieldModel K} (L : LawfulField F) where
       pub honest_short : length (honest_sheet F h v q fs) ≤ 9216
       honest_short = text_fits F L (terms_of q h v) (q.tally h v fs) (honest F h v q fs) ten_digits (omega (arith, tally_range)) (omega (arith, length_honest L q Q h v fit fs, degree_small L q Q h v fit))
 
-      found_honest : (r : K) → found F h v r (columns F h v fs r) q (Ok (q.tally h v fs, honest F h v q fs)) ≡ Ok (q.tally h v fs)
+      found_honest : (r : K) → found F h v r (columns_at F h v fs r) q (Ok (q.tally h v fs, honest F h v q fs)) ≡ Ok (q.tally h v fs)
       found_honest r = rw (same_eq L.parts _ _ (honest_add_up L q Q h v fit fs w), same_eq L.parts _ _ (honest_agree L q Q h v fit fs r)) refl
 
-      pub honest_accepted : (r : K) (bank : List K) → v ≤ length bank → take v bank ≡ columns F h v fs r → (tray : List K) → suc (q.degree h) ≤ length tray → (judged F h v r bank q (honest_sheet F h v q fs) tray).answer ≡ Ok (q.tally h v fs)
+      pub honest_accepted : (r : K) (bank : List K) → v ≤ length bank → take v bank ≡ columns_at F h v fs r → (tray : List K) → suc (q.degree h) ≤ length tray → (judged F h v r bank q (honest_sheet F h v q fs) tray).answer ≡ Ok (q.tally h v fs)
       honest_accepted r bank b e tray t =
           ap (λ a. (settled_by F h v r a (take v bank) q (read_sheet F q h v (honest_sheet F h v q fs)) tray).answer) (ready_true r bank tray b t)
           ∙ ap₂ (λ cs s. found F h v r cs q s) e honest_read ∙ found_honest r

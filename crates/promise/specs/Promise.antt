@@ -5,7 +5,7 @@ use Rattle.board.specs.declared.moves.Move.{Move}
 use Rattle.board.specs.Ledger.{ledger}
 use Rattle.polynomial.specs.Lists.{Distinct}
 use Rattle.std.specs.List.{AllByRecursion}
-use Rattle.polynomial.specs.Columns.{columns}
+use Rattle.polynomial.specs.Columns.{columns_at}
 use Rattle.question.specs.declared.outcome.Fit.TheVariants as fit
 use Rattle.question.specs.Question.{QuestionModel, LawfulQuestion}
 use Rattle.host.specs.Notes.{HostState}
@@ -46,7 +46,7 @@ module _ {K : Type 0} (F : FieldModel K) where
   VerifierSums =
       (rs : List (Request (VerifierOpening K) (Judging K))) → Shaped (verifier_end F) closed rs → (o : VerifierOpening K) → granted_open (verifier_end F) rs ≡ Some o
       → (x : VerifierState K) → Open (after (verifier_end F) closed rs) x
-      → take o.columns x.bank ≡ columns F o.rows o.columns (ledger o.rows o.columns F.limit (moves rs)).counts o.point
+      → take o.columns x.bank ≡ columns_at F o.rows o.columns (ledger o.rows o.columns F.limit (moves rs)).counts o.point
 
   -- after every request the host's bank begins with its ledger's counts
   abbrev pub HostCounts : Type 0

@@ -6,7 +6,7 @@ use Rattle.board.specs.Ledger.{ledger}
 use Rattle.polynomial.specs.Lists.{AnyByRecursion}
 use Rattle.std.specs.List.{AllByRecursion}
 use Rattle.polynomial.specs.Interpolation.{node}
-use Rattle.polynomial.specs.Columns.{columns}
+use Rattle.polynomial.specs.Columns.{columns_at}
 use Rattle.question.specs.Question.{QuestionModel}
 use Rattle.protocol.specs.Asking.{honest}
 use Rattle.host.specs.Answering.{Answered}
@@ -75,6 +75,6 @@ module _ {K : Type 0} (F : FieldModel K) (h v : ℕ) (ms : List Move) where
     pub size : ℕ
     pub answer : given.answer ≡ Ok (true_count F h v ms q, size)
     pub inside : size ≤ length paper
-    pub values : given.tray ≡ honest F h v q (ledger h v F.limit ms).counts ++ (columns F h v (ledger h v F.limit ms).counts (node F (q.degree h)) ++ drop (suc (q.degree h) + v) tray)
+    pub values : given.tray ≡ honest F h v q (ledger h v F.limit ms).counts ++ (columns_at F h v (ledger h v F.limit ms).counts (node F (q.degree h)) ++ drop (suc (q.degree h) + v) tray)
     pub rest : drop size given.paper ≡ drop size paper
     pub accepted : (r : K) (box : SealedVerifier r) (tray' : List K) → suc (q.degree h) ≤ length tray' → (verifier_gives box q (take size given.paper) tray').answer ≡ Ok (true_count F h v ms q)

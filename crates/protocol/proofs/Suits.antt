@@ -1,5 +1,5 @@
 -- What a question that suits a grid keeps to. Assumes nothing.
-use Rattle.std.proofs.Common.{◌≡◌, ℕ, suc, ◌≤◌, Bool, true, false, cond, ◌&&◌, leb, Ok, Err, Result, refl, arith, leb-true}
+use Rattle.std.proofs.Common.{◌≡◌, ℕ, suc, ◌≤◌, Bool, true, false, cond, Ok, Err, Result, refl, arith, leb-true}
 use Rattle.std.proofs.lemmas.Bool.{and_parts}
 use borrow.Author.Tests.{clash}
 use Rattle.refusal.specs.declared.refusal.Refusal.{Refusal}

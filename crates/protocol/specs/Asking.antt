@@ -6,7 +6,7 @@ use Rattle.field.specs.Field.{FieldModel, modulo}
 use Rattle.field.specs.declared.limits.TheConstants.{INVERSES}
 use Rattle.polynomial.specs.Lists.{listed}
 use Rattle.polynomial.specs.Interpolation.{node}
-use Rattle.polynomial.specs.Columns.{columns}
+use Rattle.polynomial.specs.Columns.{columns_at}
 use Rattle.question.specs.declared.outcome.Fit.{Fit}
 use Rattle.question.specs.declared.outcome.Fit.TheVariants as fit
 use Rattle.question.specs.Question.{QuestionModel}
@@ -49,4 +49,4 @@ module _ {K : Type 0} (F : FieldModel K) where
 
   -- the values of the question's polynomial at 0 to its degree: the rule on the columns there
   abbrev pub honest : ℕ → ℕ → QuestionModel K → List ℤ → List K
-  honest h v q fs = listed 0 (suc (q.degree h)) (λ j. q.rule h v (node F j) (columns F h v fs (node F j)))
+  honest h v q fs = listed 0 (suc (q.degree h)) (λ j. q.rule h v (node F j) (columns_at F h v fs (node F j)))

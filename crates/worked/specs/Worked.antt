@@ -10,7 +10,7 @@ use Rattle.field.specs.Field.{FieldModel}
 use Rattle.prime.specs.declared.residue.Residue.{Residue}
 use Rattle.extension.specs.declared.pair.Extension.{Extension}
 use Rattle.extension.specs.Pairs.{pair, quadratic}
-use Rattle.polynomial.specs.Columns.{columns}
+use Rattle.polynomial.specs.Columns.{columns_at}
 use Rattle.polynomial.specs.Interpolation.{node}
 use Rattle.question.specs.Question.{QuestionModel}
 use Rattle.question.specs.Cells.{range_question}
@@ -54,7 +54,7 @@ t = pair residues.zero residues.one
 
 -- the rule for the squares at t, on the columns there
 abbrev pub squares_at_t : Extension (Residue 65537)
-squares_at_t = (squares_question extended).rule 2 8 t (columns extended 2 8 counts t)
+squares_at_t = (squares_question extended).rule 2 8 t (columns_at extended 2 8 counts t)
 
 -- an answer, with its refusal's number
 abbrev pub numbered : {A : Type 0} → Result A Refusal → Result A ℕ
