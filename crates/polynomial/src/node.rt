@@ -30,7 +30,8 @@ pub(crate) fn difference_inverse<F: Field>(x: u32, k: u32) -> F
     requires first { x ≤ INVERSES }
     requires second { k ≤ INVERSES }
     requires apart { x ≢ k }
-    ensures { result ≡ F.Field.model.inv (sub F.Field.model (node F.Field.model x) (node F.Field.model k)) }
+    ensures { result ≡ F.Field.model.inv
+        (sub F.Field.model (node F.Field.model x) (node F.Field.model k)) }
 {
     if k < x {
         F::inverse_of(x - k)

@@ -1,7 +1,7 @@
 // The Lagrange basis, at its nodes and elsewhere.
 use extension::Extension;
 use field::Field;
-use polynomial::{basis_at, node_at};
+use polynomial::{MOST_NODES, basis_at, node_at};
 use prime::{Mersenne31, Mod65537};
 use std::process::Abort;
 
@@ -10,7 +10,7 @@ type Case = (u32, u32, (u32, u32));
 
 fn check_basis<F: Field>(rt: &impl Abort, point: F, cases: &[Case]) {
     for &(rows, x, parts) in cases {
-        assert!(rt; rows <= 253 && x < rows);
+        assert!(rt; rows <= MOST_NODES && x < rows);
         let value = basis_at(rows, x, point);
         assert_eq!(rt; (value.low(), value.high()), parts);
     }
@@ -18,7 +18,7 @@ fn check_basis<F: Field>(rt: &impl Abort, point: F, cases: &[Case]) {
 
 // One at its own node, zero at the others.
 fn check_nodes<F: Field>(rt: &impl Abort, rows: u32) {
-    assert!(rt; rows <= 253);
+    assert!(rt; rows <= MOST_NODES);
     for x in 0..rows {
         for k in 0..rows {
             let value: F = basis_at(rows, x, node_at(k));

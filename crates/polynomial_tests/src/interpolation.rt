@@ -1,7 +1,7 @@
 // Interpolation at a point, from one value up to 253.
 use extension::Extension;
 use field::Field;
-use polynomial::interpolate_at;
+use polynomial::{MOST_NODES, interpolate_at};
 use prime::{Mersenne31, Mod65537};
 use std::process::Abort;
 
@@ -11,7 +11,7 @@ type Quadratic = Extension<Mod65537>;
 type Case<F> = (F, (u32, u32));
 
 fn check_values<F: Field>(rt: &impl Abort, values: &[F], cases: &[Case<F>]) {
-    assert!(rt; (1..=253).contains(&values.len()));
+    assert!(rt; (1..=MOST_NODES as usize).contains(&values.len()));
     for &(point, parts) in cases {
         let value = interpolate_at(values, point);
         assert_eq!(rt; (value.low(), value.high()), parts);
@@ -70,7 +70,7 @@ fn check_powers<F: Field>(rt: &impl Abort, values: &mut [F], cases: &[Case<F>]) 
     let mut power = F::one();
     for value in values.iter_mut() {
         *value = power;
-        power = power.sum(power);
+        power = power + power;
     }
     check_values(rt, values, cases);
 }

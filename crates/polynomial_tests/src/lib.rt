@@ -1,4 +1,5 @@
-// Tests of the Lagrange basis and of interpolation, against values computed by another program.
+//! Tests of the Lagrange basis and of interpolation,
+//! against values computed by another program.
 #![tactic(auto)]
 
 #[cfg(test)]

@@ -1,5 +1,5 @@
 -- A question about a board's counts: what it means, and what makes it lawful. Assumes nothing.
-use Rattle.std.specs.Prelude.{◌≡◌, ℕ, suc, ◌-◌, ◌*◌, ◌≤◌, Bool, true, cond, List, map, length, ℤ, pos, ◌-ℤ◌, neg_ℤ, ◌≤ℤ◌, ◌<ℤ◌}
+use Rattle.std.specs.Prelude.{◌≡◌, ℕ, suc, ◌-◌, ◌*◌, ◌≤◌, Bool, true, if◌then◌else◌, List, map, length, ℤ, pos, ◌-ℤ◌, neg_ℤ, ◌≤ℤ◌, ◌<ℤ◌}
 use Rattle.field.specs.Field.{FieldModel}
 use Rattle.board.specs.Grids.{grid_allowed}
 use Rattle.board.specs.Ledger.{abs_sum}
@@ -7,9 +7,9 @@ use Rattle.std.specs.List.{AllByRecursion}
 use Rattle.polynomial.specs.Sums.{sum_from}
 use Rattle.polynomial.specs.Polynomials.{eval}
 use Rattle.polynomial.specs.Interpolation.{node}
-use Rattle.polynomial.specs.Columns.{row}
-use Rattle.question.specs.declared.outcome.Fit.{Fit}
-use Rattle.question.specs.declared.outcome.Fit.TheVariants as fit
+use Rattle.polynomial.specs.Columns.{row_images}
+use Rattle.question.specs.declared.fit.Fit.{Fit}
+use Rattle.question.specs.declared.fit.Fit.TheVariants as fit
 use Rattle.board.specs.declared.tag.Tag.{Tag}
 
 -- the meaning of a question over a field with the elements K
@@ -29,7 +29,7 @@ pub record QuestionModel (K : Type 0) : Type 0 where
 
 -- it fits where the test holds
 abbrev pub fits_if : Bool → Fit
-fits_if b = cond b fit.Fits fit.DoesNotFit
+fits_if b = if b then fit.Fits else fit.DoesNotFit
 
 -- an allowed grid that the question fits
 pub record Fits {K : Type 0} (q : QuestionModel K) (h v : ℕ) : Type 0 where
@@ -60,7 +60,7 @@ pub record LawfulQuestion {K : Type 0} (F : FieldModel K) (q : QuestionModel K) 
   -- on v polynomials of degree at most h − 1 the rule is a polynomial of degree at most D
   pub polynomial : (h v : ℕ) → Fits q h v → (ps : List (List K)) → length ps ≡ v → AllByRecursion (λ p. length p ≤ h) ps → Follows F q h v ps
   -- the rule at the rows, on the counts there, adds up to the image of the true count
-  pub rows_add_up : (h v : ℕ) → Fits q h v → (fs : List ℤ) → Within F h v fs → sum_from F 0 h (λ x. q.rule h v (node F x) (row F v fs x)) ≡ F.image (q.tally h v fs)
+  pub rows_add_up : (h v : ℕ) → Fits q h v → (fs : List ℤ) → Within F h v fs → sum_from F 0 h (λ x. q.rule h v (node F x) (row_images F v fs x)) ≡ F.image (q.tally h v fs)
   -- the true count is among the claims
   pub tally_least : (h v : ℕ) → Fits q h v → (fs : List ℤ) → Within F h v fs → q.least ≤ℤ q.tally h v fs
   pub tally_most : (h v : ℕ) → Fits q h v → (fs : List ℤ) → Within F h v fs → q.tally h v fs ≤ℤ q.greatest

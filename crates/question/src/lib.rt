@@ -1,14 +1,9 @@
-// Questions about a board's counts: one interface, what makes a question lawful, and the meanings of lawful questions.
+//! Questions about a board's counts: one interface for all of them,
+//! and what makes a question lawful.
 #![tactic(auto)]
 
-mod interface;
-mod outcome;
-mod theorems;
+mod fit;
+mod question;
 
-pub use board::Tag;
-pub use interface::Question;
-pub use outcome::Fit;
-pub use theorems::{
-    cell_is_lawful, distinct_cells_are_lawful, goods_are_lawful, range_is_lawful,
-    squares_are_lawful,
-};
+pub use fit::Fit;
+pub use question::Question;

@@ -1,3 +1,9 @@
+pub mod Bounds
+pub mod Rows
+pub mod Tallies
+pub mod CellsLaw
+pub mod GoodsLaw
+pub mod SquaresLaw
+pub mod SeasonLaw
 pub mod Sums
 pub mod Ranges
-pub mod MixtureLaw

@@ -9,7 +9,8 @@ use Rattle.polynomial.specs.Lists.{listed}
 use Rattle.polynomial.specs.Sums.{sum_from, list_sum}
 use Rattle.polynomial.specs.Interpolation.{chi}
 use Rattle.polynomial.proofs.Sums.{sum_cong, sum_split, sum_shift, sum_rows}
-use Rattle.question.specs.Cells.{cells_tally, cells_rule, cells_between}
+use Rattle.season.specs.Cells.{cells_tally, cells_rule}
+use Rattle.season.specs.Range.{cells_between}
 
 -- the counts at n cells from cell a on, added to z
 range_onto : (z : ℤ) (a n : ℕ) (fs : List ℤ) → a + n ≤ length fs → fold ◌+ℤ◌ z (take n (drop a fs)) ≡ z +ℤ cells_tally (listed a n (λ i. i)) fs
@@ -74,8 +75,8 @@ module _ {K : Type 0} {F : FieldModel K} (L : LawfulField F) where
 
       -- the range lies in several rows: the rest of the first, the rows between, the beginning of the last
       pub in_several_rows : a / v < b / v → cells_rule F h v (cells_between a b) X cs
-          ≡ F.add (F.mul (chi F h (a / v) X) (list_sum F (take (v - a % v) (drop (a % v) cs))))
-          (F.add (F.mul (sum_from F (a / v + 1) (b / v - (a / v + 1)) (λ k. chi F h k X)) (list_sum F cs)) (F.mul (chi F h (b / v) X) (list_sum F (take (b % v + 1) cs))))
+          ≡ F.add (F.add (F.mul (chi F h (a / v) X) (list_sum F (take (v - a % v) (drop (a % v) cs)))) (F.mul (sum_from F (a / v + 1) (b / v - (a / v + 1)) (λ k. chi F h k X)) (list_sum F cs)))
+          (F.mul (chi F h (b / v) X) (list_sum F (take (b % v + 1) cs)))
       in_several_rows lt =
           let x = a / v in
           let y = a % v in
@@ -95,3 +96,4 @@ module _ {K : Type 0} {F : FieldModel K} (L : LawfulField F) where
           (ap (λ i. sum_from F i (v - y) at) (sym p) ∙ row_part x y (v - y) (omega arith))
           (ap (λ i. sum_from F i (n * v + (b % v + 1)) at) next ∙ sum_split L ((x + 1) * v) (n * v) (b % v + 1) at
           ∙ ap₂ F.add (whole_rows (x + 1) n) (ap (λ i. sum_from F i (b % v + 1) at) last ∙ row_part (b / v) 0 (b % v + 1) (omega arith)))
+          ∙ sym (L.ring.add_assoc _ _ _)

@@ -8,10 +8,11 @@ use Rattle.std.proofs.lemmas.Iterator.{YieldsList}
 use Rattle.std.proofs.lemmas.Iterator.Consumers.{YieldsList-so_far}
 use Rattle.std.specs.Iterator.{Yields}
 use Rattle.std.specs.Iterator.Runs.{EachRunFrom, YieldsRun}
+use Rattle.field.specs.declared.limits.TheConstants.{GREATEST_LIMIT}
 use Rattle.field.specs.Field.{FieldModel, LawfulField}
 use Rattle.board.specs.Ledger.{abs_sum}
 use Rattle.board.proofs.Ledgers.{abs-add}
-use Rattle.question.proofs.Tallies.{square}
+use Rattle.season.proofs.Tallies.{square}
 
 -- a sum with its laws
 pub record Sum {K : Type 0} (plus : K → K → K) (none : K) : Type 0 where
@@ -80,8 +81,8 @@ squares_abs : (fs : List ℤ) → abs_sum (map (λ f. f *ℤ f) fs) ≤ abs_sum 
 squares_abs [] = omega arith
 squares_abs (f ∷ fs) = omega (arith, squares_abs fs, ap nat_abs (square f))
 
-pub squares_small : (fs : List ℤ) → abs_sum fs ≤ 46340 → abs_sum (map (λ f. f *ℤ f) fs) ≤ 2147395600
-squares_small fs h = omega (arith, squares_abs fs, mul-le-mul {n₁ = abs_sum fs} {m₁ = abs_sum fs} {n₂ = 46340} {m₂ = 46340} h h)
+pub squares_small : (fs : List ℤ) → abs_sum fs ≤ GREATEST_LIMIT → abs_sum (map (λ f. f *ℤ f) fs) ≤ GREATEST_LIMIT * GREATEST_LIMIT
+squares_small fs h = omega (arith, squares_abs fs, mul-le-mul {n₁ = abs_sum fs} {m₁ = abs_sum fs} {n₂ = GREATEST_LIMIT} {m₂ = GREATEST_LIMIT} h h)
 
 -- the counts of one of the goods
 pub goods_abs : (kind j : ℕ) (fs : List ℤ) → abs_sum (map (λ p. p.1) (filter (λ p. eqb (p.0 % 8) kind) (enumerate_from j fs))) ≤ abs_sum fs

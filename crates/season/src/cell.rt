@@ -1,16 +1,20 @@
 // The count at one cell.
-ghost use Rattle.question.specs.Cells.{cell_question};
+ghost use Rattle.season.specs.Cell.{CellLawful, cell_question};
 
-use board::Grid;
+use crate::limits::count_limit;
+use board::{Grid, Tag};
 use field::Field;
 use polynomial::basis_at;
-use question::{Fit, Question, Tag};
+use question::{Fit, Question};
 
-#[derive(Clone, Copy)]
+/// The count at one cell.
+#[derive(Clone, Copy, Debug, PartialEq, Eq)]
 pub struct Cell {
+    /// The cell. It fits a grid where it is below rows × columns.
     pub index: u32,
 }
 
+/// Its tag is 1, the cell, 0; a claim is from −W to W.
 impl<F: Field> Question<F> for Cell {
     ghost meaning = { λ q. cell_question F.Field.model q.index };
 
@@ -22,13 +26,12 @@ impl<F: Field> Question<F> for Cell {
         2 * (grid.rows - 1)
     }
 
-    // The limits of a count stand in three questions and not in the trait, whose meaning leaves them open.
     fn least(&self) -> i64 {
-        -i64::from(F::limit())
+        -count_limit::<F>()
     }
 
     fn greatest(&self) -> i64 {
-        i64::from(F::limit())
+        count_limit::<F>()
     }
 
     fn tag(&self) -> Tag {
@@ -47,6 +50,11 @@ impl<F: Field> Question<F> for Cell {
         let cell = u64::from(self.index);
         let x = grid.row_of(cell) as u32;
         let y = grid.column_of(cell) as usize;
-        basis_at(grid.rows, x, point).product(columns[y])
+        basis_at(grid.rows, x, point) * columns[y]
     }
 }
+
+/// The count at any cell is lawful over every lawful field.
+pub fn cell_is_lawful<F: Field>()
+    ensures { CellLawful F.Field.model }
+{}

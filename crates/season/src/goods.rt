@@ -1,15 +1,19 @@
 // The count of one of the eight goods: cell i is of the goods i mod 8, and so is column i.
-ghost use Rattle.question.specs.GoodsSums.{goods_question};
+ghost use Rattle.season.specs.Goods.{GoodsLawful, goods_question};
 
-use board::Grid;
+use crate::limits::count_limit;
+use board::{Grid, Tag};
 use field::Field;
-use question::{Fit, Question, Tag};
+use question::{Fit, Question};
 
-#[derive(Clone, Copy)]
+/// The counts at all cells of one of the eight goods, added. Cell i is of the goods i mod 8.
+#[derive(Clone, Copy, Debug, PartialEq, Eq)]
 pub struct Goods {
+    /// The goods. They fit a grid where they are below 8.
     pub kind: u32,
 }
 
+/// Its tag is 2, the goods, 0; a claim is from −W to W.
 impl<F: Field> Question<F> for Goods {
     ghost meaning = { λ q. goods_question F.Field.model q.kind };
 
@@ -21,13 +25,12 @@ impl<F: Field> Question<F> for Goods {
         grid.rows - 1
     }
 
-    // As in `Cell`: the trait cannot answer it.
     fn least(&self) -> i64 {
-        -i64::from(F::limit())
+        -count_limit::<F>()
     }
 
     fn greatest(&self) -> i64 {
-        i64::from(F::limit())
+        count_limit::<F>()
     }
 
     fn tag(&self) -> Tag {
@@ -52,6 +55,11 @@ impl<F: Field> Question<F> for Goods {
             .iter()
             .enumerate()
             .filter(|(y, _)| y % 8 == self.kind as usize)
-            .fold(F::zero(), |all, (_, column)| all.sum(*column))
+            .fold(F::zero(), |all, (_, column)| all + *column)
     }
 }
+
+/// The count of any goods is lawful over every lawful field.
+pub fn goods_are_lawful<F: Field>()
+    ensures { GoodsLawful F.Field.model }
+{}

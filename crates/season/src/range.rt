@@ -2,16 +2,22 @@
 ghost use Rattle.std.specs.Prelude.{◌≡◌, ◌-◌, ◌*◌, ◌<◌, ◌≤◌, length};
 ghost use Rattle.polynomial.specs.Interpolation.{chi};
 ghost use Rattle.polynomial.specs.Sums.{sum_from};
-ghost use Rattle.question.specs.Cells.{cells_between, cells_rule, range_question};
+ghost use Rattle.season.specs.Cells.{cells_rule};
+ghost use Rattle.season.specs.Range.{RangeLawful, cells_between, range_question};
 
-use board::Grid;
+use crate::limits::count_limit;
+use board::{Grid, Tag};
 use field::Field;
 use polynomial::{basis_at, total};
-use question::{Fit, Question, Tag};
+use question::{Fit, Question};
 
-#[derive(Clone, Copy)]
+/// The counts from one cell to another, both among them, added. It fits a grid where the first cell is not above the last and the
+/// last is below rows × columns.
+#[derive(Clone, Copy, Debug, PartialEq, Eq)]
 pub struct Range {
+    /// The first cell.
     pub first: u32,
+    /// The last cell.
     pub last: u32,
 }
 
@@ -20,9 +26,10 @@ fn basis_total<F: Field>(rows: u32, start: u32, end: u32, point: F) -> F
     requires few { rows ≤ 64 }
     requires ordered { start ≤ end }
     requires inside { end ≤ rows }
-    ensures { result ≡ sum_from F.Field.model start (end - start) (λ x. chi F.Field.model rows x point) }
+    ensures { result ≡ sum_from F.Field.model start (end - start)
+        (λ x. chi F.Field.model rows x point) }
 {
-    (start..end).fold(F::zero(), |all, x| all.sum(basis_at(rows, x, point)))
+    (start..end).fold(F::zero(), |all, x| all + basis_at(rows, x, point))
 }
 
 // The rule on the cells from first to last: the first and the last row in part, and the rows between them at once.
@@ -31,7 +38,8 @@ fn rows_rule<F: Field>(grid: Grid, first: u64, last: u64, point: F, columns: &[F
     requires ordered { first ≤ last }
     requires inside { last < grid.rows * grid.columns }
     requires wide { length columns.now ≡ grid.columns }
-    ensures { result ≡ cells_rule F.Field.model grid.rows grid.columns (cells_between first last) point columns.now }
+    ensures { result ≡ cells_rule F.Field.model grid.rows grid.columns
+        (cells_between first last) point columns.now }
 {
     let rows = grid.rows;
     let x = grid.row_of(first) as u32;
@@ -40,14 +48,15 @@ fn rows_rule<F: Field>(grid: Grid, first: u64, last: u64, point: F, columns: &[F
     let end = grid.column_of(last) as usize + 1;
     let top = basis_at(rows, x, point);
     if x == last_x {
-        return top.product(total(&columns[y..end]));
+        return top * total(&columns[y..end]);
     }
-    let head = top.product(total(&columns[y..]));
-    let body = basis_total(rows, x + 1, last_x, point).product(total(columns));
-    let tail = basis_at(rows, last_x, point).product(total(&columns[..end]));
-    head.sum(body.sum(tail))
+    let head = top * total(&columns[y..]);
+    let body = basis_total(rows, x + 1, last_x, point) * total(columns);
+    let tail = basis_at(rows, last_x, point) * total(&columns[..end]);
+    head + body + tail
 }
 
+/// Its tag is 3, the first cell, the last cell; a claim is from −W to W.
 impl<F: Field> Question<F> for Range {
     ghost meaning = { λ q. range_question F.Field.model q.first q.last };
 
@@ -59,13 +68,12 @@ impl<F: Field> Question<F> for Range {
         2 * (grid.rows - 1)
     }
 
-    // As in `Cell`: the trait cannot answer it.
     fn least(&self) -> i64 {
-        -i64::from(F::limit())
+        -count_limit::<F>()
     }
 
     fn greatest(&self) -> i64 {
-        i64::from(F::limit())
+        count_limit::<F>()
     }
 
     fn tag(&self) -> Tag {
@@ -95,3 +103,8 @@ impl<F: Field> Question<F> for Range {
         )
     }
 }
+
+/// The counts of any range are lawful over every lawful field.
+pub fn range_is_lawful<F: Field>()
+    ensures { RangeLawful F.Field.model }
+{}

@@ -1,12 +1,14 @@
 // The squares of all counts, added.
 ghost use Rattle.std.specs.Prelude.{◌≡◌, ◌*ℤ◌};
-ghost use Rattle.question.specs.SquareSums.{squares_question};
+ghost use Rattle.season.specs.Squares.{SquaresLawful, squares_question};
 
-use board::Grid;
+use crate::limits::count_limit;
+use board::{Grid, Tag};
 use field::Field;
-use question::{Fit, Question, Tag};
+use question::{Fit, Question};
 
-#[derive(Clone, Copy)]
+/// The squares of all counts, added. It fits every grid.
+#[derive(Clone, Copy, Debug, PartialEq, Eq)]
 pub struct Squares;
 
 // The square of a count.
@@ -17,6 +19,7 @@ fn square(count: i32) -> i64
     wide * wide
 }
 
+/// Its tag is 4, 0, 0; a claim is from 0 to W × W.
 impl<F: Field> Question<F> for Squares {
     ghost meaning = { λ q. squares_question F.Field.model };
 
@@ -33,7 +36,7 @@ impl<F: Field> Question<F> for Squares {
     }
 
     fn greatest(&self) -> i64 {
-        let limit = i64::from(F::limit());
+        let limit = count_limit::<F>();
         limit * limit
     }
 
@@ -52,6 +55,11 @@ impl<F: Field> Question<F> for Squares {
     fn rule(&self, _grid: Grid, _point: F, columns: &[F]) -> F {
         columns
             .iter()
-            .fold(F::zero(), |all, column| all.sum(column.product(*column)))
+            .fold(F::zero(), |all, column| all + *column * *column)
     }
 }
+
+/// The squares of all counts are lawful over every lawful field.
+pub fn squares_are_lawful<F: Field>()
+    ensures { SquaresLawful F.Field.model }
+{}

@@ -1,7 +1,7 @@
 use Rattle.std.proofs.Common.{◌%◌, eqb, rules, tests, refl, ◌∙◌}
 use Rattle.std.proofs.lemmas.Iterator.{YieldsList-from_slice}
 use Rattle.std.proofs.lemmas.Iterator.Consumers.{YieldsList-from_enumerate, YieldsList-from_filter, fold_from_yields_List}
-use Rattle.question.specs.GoodsSums.{goods_rule}
+use Rattle.season.specs.Goods.{goods_rule}
 use Rattle.season.proofs.Sums.{Sum-field, each_of_goods}
 use Rattle.season.proofs.goods.GoodsQuestion.rule.Goals as goal
 

@@ -6,7 +6,7 @@ use Rattle.std.proofs.lemmas.Iterator.{YieldsList-from_slice, YieldsList-from_ma
 use Rattle.std.proofs.lemmas.Iterator.Consumers.{YieldsList-at, YieldsList-from_enumerate, YieldsList-from_filter}
 use Rattle.std.proofs.lemmas.Iterator.Adapters.{total_from_yields_List}
 use Rattle.field.proofs.Consequences.{limit_small}
-use Rattle.question.specs.GoodsSums.{goods_tally}
+use Rattle.season.specs.Goods.{goods_tally}
 use Rattle.season.proofs.Sums.{Sum-ℤ, each_of_goods, sum_fits, goods_abs}
 use Rattle.season.proofs.goods.GoodsQuestion.tally.Goals as goal
 

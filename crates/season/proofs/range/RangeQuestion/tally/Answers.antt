@@ -4,7 +4,7 @@ use Rattle.std.proofs.lemmas.Iterator.{YieldsList-from_slice, YieldsList-from_ma
 use Rattle.std.proofs.lemmas.Iterator.Adapters.{total_from_yields_List}
 use Rattle.std.proofs.lemmas.Bool.{and_parts}
 use Rattle.field.proofs.Consequences.{limit_small}
-use Rattle.question.proofs.Grids.{test_holds}
+use Rattle.question.proofs.Fits.{test_holds}
 use Rattle.season.proofs.Sums.{sum_fits, abs-take-drop}
 use Rattle.season.proofs.Ranges.{range_tally}
 use Rattle.season.proofs.range.RangeQuestion.tally.Goals as goal

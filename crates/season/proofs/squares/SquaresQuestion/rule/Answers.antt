@@ -1,7 +1,7 @@
 use Rattle.std.proofs.Common.{rules, refl, ◌∙◌}
 use Rattle.std.proofs.lemmas.Iterator.{YieldsList-from_slice}
 use Rattle.std.proofs.lemmas.Iterator.Consumers.{fold_from_yields_List}
-use Rattle.question.specs.SquareSums.{squares_rule}
+use Rattle.season.specs.Squares.{squares_rule}
 use Rattle.season.proofs.Sums.{Sum-field, each_term}
 use Rattle.season.proofs.squares.SquaresQuestion.rule.Goals as goal
 

@@ -4,7 +4,7 @@ use Rattle.std.proofs.lemmas.List.Folds.{fold-map}
 use Rattle.std.proofs.lemmas.Iterator.{YieldsList-from_slice, YieldsList-from_map}
 use Rattle.std.proofs.lemmas.Iterator.Adapters.{total_from_yields_List}
 use Rattle.field.proofs.Consequences.{limit_small}
-use Rattle.question.specs.SquareSums.{squares_tally}
+use Rattle.season.specs.Squares.{squares_tally}
 use Rattle.season.proofs.Sums.{Sum-ℤ, each_term, sum_fits, squares_small}
 use Rattle.season.proofs.squares.SquaresQuestion.tally.Goals as goal
 

@@ -1,5 +1,0 @@
-use Rattle.question.proofs.SquaresLaw.{squares_lawful}
-use Rattle.question.proofs.theorems.squares_are_lawful.Goals as goal
-
-pub returns : goal.returns
-returns g c = squares_lawful g.met.F.Field.lawful
