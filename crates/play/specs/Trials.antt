@@ -5,7 +5,7 @@ use Rattle.board.specs.declared.moves.Move.{Move}
 use Rattle.refusal.specs.declared.refusal.Refusal.{Refusal}
 use Rattle.board.specs.Grids.{grid_allowed}
 use Rattle.field.specs.Field.{FieldModel}
-use Rattle.question.specs.declared.outcome.Fit.TheVariants as fit
+use Rattle.question.specs.declared.fit.Fit.TheVariants as fit
 use Rattle.question.specs.Question.{QuestionModel, LawfulQuestion}
 use Rattle.host.specs.Answering.{Answered, answered}
 use Rattle.host.specs.Calls.{host_open_answer, host_open_bank}

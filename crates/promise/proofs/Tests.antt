@@ -5,8 +5,8 @@ use Rattle.std.proofs.lemmas.Int.{ints}
 use Rattle.field.specs.Field.{FieldModel}
 use Rattle.board.specs.declared.moves.Move.{Move}
 use Rattle.refusal.specs.declared.refusal.Refusal.{Refusal}
-use Rattle.question.specs.declared.outcome.Fit.{Fit}
-use Rattle.question.specs.declared.outcome.Fit.TheVariants as fit
+use Rattle.question.specs.declared.fit.Fit.{Fit}
+use Rattle.question.specs.declared.fit.Fit.TheVariants as fit
 use Rattle.protocol.specs.Asking.{is_fit, read_sheet}
 use Rattle.promise.specs.Claims.{Entry, claim_differs, true_count, FalseClaim, claims_falsely}
 use Rattle.promise.specs.Adequacy.{TestsFalseClaims}

@@ -4,7 +4,7 @@ use Rattle.field.specs.Field.{FieldModel}
 use Rattle.board.specs.declared.moves.Move.{Move}
 use Rattle.refusal.specs.declared.refusal.Refusal.{Refusal}
 use Rattle.board.specs.Ledger.{ledger}
-use Rattle.question.specs.declared.outcome.Fit.TheVariants as fit
+use Rattle.question.specs.declared.fit.Fit.TheVariants as fit
 use Rattle.question.specs.Question.{QuestionModel}
 use Rattle.protocol.specs.Asking.{is_fit, read_sheet}
 

@@ -6,7 +6,7 @@ use Rattle.board.specs.Ledger.{ledger}
 use Rattle.polynomial.specs.Lists.{Distinct}
 use Rattle.std.specs.List.{AllByRecursion}
 use Rattle.polynomial.specs.Columns.{columns_at}
-use Rattle.question.specs.declared.outcome.Fit.TheVariants as fit
+use Rattle.question.specs.declared.fit.Fit.TheVariants as fit
 use Rattle.question.specs.Question.{QuestionModel, LawfulQuestion}
 use Rattle.host.specs.Notes.{HostState}
 use Rattle.verifier.specs.Notes.{VerifierState}

@@ -5,8 +5,8 @@ use borrow.Author.Tests.{clash}
 use Rattle.refusal.specs.declared.refusal.Refusal.{Refusal}
 use Rattle.refusal.specs.declared.refusal.Refusal.TheVariants.{QuestionUnfit}
 use Rattle.field.specs.declared.limits.TheConstants.{INVERSES}
-use Rattle.question.specs.declared.outcome.Fit.{Fit}
-use Rattle.question.specs.declared.outcome.Fit.TheVariants as fit
+use Rattle.question.specs.declared.fit.Fit.{Fit}
+use Rattle.question.specs.declared.fit.Fit.TheVariants as fit
 use Rattle.question.specs.Question.{QuestionModel}
 use Rattle.protocol.specs.Asking.{is_fit, suits, suit_answer}
 

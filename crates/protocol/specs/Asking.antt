@@ -7,8 +7,8 @@ use Rattle.field.specs.declared.limits.TheConstants.{INVERSES}
 use Rattle.polynomial.specs.Lists.{listed}
 use Rattle.polynomial.specs.Interpolation.{node}
 use Rattle.polynomial.specs.Columns.{columns_at}
-use Rattle.question.specs.declared.outcome.Fit.{Fit}
-use Rattle.question.specs.declared.outcome.Fit.TheVariants as fit
+use Rattle.question.specs.declared.fit.Fit.{Fit}
+use Rattle.question.specs.declared.fit.Fit.TheVariants as fit
 use Rattle.question.specs.Question.{QuestionModel}
 use Rattle.sheet.specs.declared.terms.Terms.{Terms}
 use Rattle.sheet.specs.Readings.{reading}

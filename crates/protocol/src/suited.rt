@@ -2,7 +2,7 @@
 ghost use Rattle.std.specs.Prelude.{◌≡◌, suc, ◌≤◌, IfOk};
 ghost use Rattle.field.specs.declared.limits.TheConstants.{INVERSES};
 ghost use Rattle.board.specs.Answers.{granted};
-ghost use Rattle.question.specs.declared.outcome.Fit.{Fit};
+ghost use Rattle.question.specs.declared.fit.Fit.{Fit};
 ghost use Rattle.protocol.specs.Asking.{suit_answer, terms_of};
 
 use crate::terms::terms_of;

@@ -3,7 +3,7 @@ ghost use Rattle.std.specs.Prelude.{◌≡◌, ◌*◌, ◌<◌, ◌≤◌, leng
 ghost use Rattle.board.specs.Banks.{cells_of, Rewritten};
 ghost use Rattle.board.specs.Answers.{granted};
 ghost use Rattle.board.specs.Books.{new_standing};
-ghost use Rattle.verifier.specs.Calls.{verifier_open_answer, verifier_open_bank, added_column, verifier_note_answer, verifier_note_standing, verifier_note_bank};
+ghost use Rattle.verifier.specs.Calls.{verifier_open_answer, verifier_open_bank, move_share, added_column, verifier_note_answer, verifier_note_standing, verifier_note_bank};
 
 use crate::sealed::Sealed;
 use board::{Bank, Book, Grid, Move};
@@ -28,6 +28,16 @@ impl<F> Model for Listening<F> {
     ghost view = { λ listening. record { standing = listening.book; point = listening.point } };
 }
 
+// What a move on the board adds to its column at the point.
+fn share_of<F: Field>(grid: Grid, point: F, m: Move) -> F
+    requires inside { m.cell < grid.rows * grid.columns }
+    requires small { unsigned_abs m.amount ≤ 256 }
+    ensures { result ≡ move_share F.Field.model grid.rows grid.columns point m }
+{
+    let row = grid.row_of(m.cell) as u32;
+    F::image(m.amount as i32) * basis_at(grid.rows, row, point)
+}
+
 // Adds the share of a move on the board to its column.
 fn add_share<F: Field>(bank: &mut Bank<'_, F>, grid: Grid, point: F, m: Move) -> Result<(), Refusal>
     requires inside { m.cell < grid.rows * grid.columns }
@@ -37,11 +47,9 @@ fn add_share<F: Field>(bank: &mut Bank<'_, F>, grid: Grid, point: F, m: Move) ->
     ensures bank { Rewritten bank.old bank.new
         (added_column F.Field.model grid.rows grid.columns point (cells_of bank.old) m) }
 {
-    let row = grid.row_of(m.cell) as u32;
     let column = grid.column_of(m.cell) as usize;
-    let share = F::image(m.amount as i32) * basis_at(grid.rows, row, point);
     let sum = bank.get(column).ok_or(Refusal::BankShort)?;
-    bank.put(column, sum + share)
+    bank.put(column, sum + share_of(grid, point, m))
 }
 
 impl<F: Field> Listening<F> {
