@@ -90,7 +90,7 @@ module _ {K : Type 0} {F : FieldModel K} (L : LawfulField F) (h v : ℕ) (ms : L
   fooled_entry : (es : List (Entry K)) (r : K) → Fooled F h v ms es r → AnyByRecursion (FalselyAt r) es
   fooled_entry es r k =
       let gs = judgings F h v ms k.judges.run in
-      let found = pick _ _ gs k.accepts (each_both _ _ gs k.judges.listed (settled L h v ms r k.judges.run).all) in
+      let found = pick _ _ gs k.accepts (each_both _ _ gs k.judges.on_list (settled L h v ms r k.judges.run).all) in
       go found.0 found.1.0 found.1.1 found.1.2 found.2.0 found.2.1
     where
       go : (g : Judging K × Judgement K) (c : ℤ) → g.1.answer ≡ Ok c → FalseClaim F h v ms (entry_of g.0) → AnyByRecursion (λ e. e ≡ entry_of g.0) es → JudgedBy L h v ms r g → AnyByRecursion (FalselyAt r) es

@@ -3,6 +3,7 @@
 use Rattle.std.proofs.Common.{◌≡◌, ℕ, suc, ◌+◌, ◌%◌, ◌<◌, ◌≤◌, ◌≢◌, List, [], ◌∷◌, length, get_or, take, ℤ, pos, negsuc, ◌-ℤ◌, nat_abs, ◌≤ℤ◌, sym, refl, ap, ◌∙◌, ap₂, inl, inr, mod-eq_of_lt, arith}
 use Rattle.std.proofs.lemmas.Int.{ints}
 use Rattle.field.specs.Field.{FieldModel, LawfulField, InRange, modulo}
+use Rattle.field.specs.declared.limits.TheConstants.{INVERSES}
 use Rattle.field.proofs.Consequences.{image-sub}
 use Rattle.field.proofs.Sameness.{decided}
 use Rattle.field.proofs.Solver.{sides, solve}
@@ -74,7 +75,7 @@ module _ {K : Type 0} {F : FieldModel K} (L : LawfulField F) where
     rows_most : h ≤ 64
     rows_most = (allowed_grid h v fit.grid).rows_most
 
-    pub degree_small : q.degree h ≤ 252
+    pub degree_small : q.degree h ≤ INVERSES
     degree_small = omega (arith, rows_most, Q.degree_most h v fit)
 
     pub rows_fit : h ≤ suc (q.degree h)

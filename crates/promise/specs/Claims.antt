@@ -6,7 +6,7 @@ use Rattle.refusal.specs.declared.refusal.Refusal.{Refusal}
 use Rattle.board.specs.Ledger.{ledger}
 use Rattle.question.specs.declared.fit.Fit.TheVariants as fit
 use Rattle.question.specs.Question.{QuestionModel}
-use Rattle.protocol.specs.Asking.{is_fit, read_sheet}
+use Rattle.protocol.specs.Asking.{is_fit, reading_under}
 
 -- a sheet, with the question that it is judged under
 pub record Entry (K : Type 0) : Type 0 where
@@ -28,12 +28,12 @@ module _ {K : Type 0} (F : FieldModel K) (h v : ℕ) (ms : List Move) where
     pub fit : e.question.fits h v ≡ fit.Fits
     pub claim : ℤ
     pub values : List K
-    pub reads : read_sheet F e.question h v e.sheet ≡ Ok (claim, values)
+    pub reads : reading_under F e.question h v e.sheet ≡ Ok (claim, values)
     pub wrong : claim ≢ true_count F h v ms e.question
 
   -- the same, as a test
   abbrev pub claims_falsely : Entry K → Bool
-  claims_falsely e = is_fit (e.question.fits h v) && claim_differs (read_sheet F e.question h v e.sheet) (true_count F h v ms e.question)
+  claims_falsely e = is_fit (e.question.fits h v) && claim_differs (reading_under F e.question h v e.sheet) (true_count F h v ms e.question)
 
   -- the degrees of the listed sheets that claim falsely, added
   abbrev pub false_degrees : List (Entry K) → ℕ

@@ -1,11 +1,11 @@
 // This season's questions on a worked board, answered by a host.
-use crate::moves::MOVES;
+use crate::cases::MOVES;
 use board::Bank;
-use refusal::Refusal;
 use extension::Extension;
 use field::Field;
 use prime::Mod65537;
 use question::Question;
+use refusal::Refusal;
 use season::{Cell, Goods, Range, Season, Squares};
 use std::process::Abort;
 use std::test::Fail;

@@ -1,10 +1,10 @@
 // Sheets for the squares on a worked board, whose true count is 14, judged at several points.
-use crate::moves::MOVES;
+use crate::cases::MOVES;
 use board::Bank;
-use refusal::{Fault, Refusal};
 use extension::Extension;
 use field::Field;
 use prime::{Mersenne31, Mod65537};
+use refusal::{Fault, Refusal};
 use season::Squares;
 use std::process::Abort;
 use std::test::Fail;

@@ -1,0 +1,15 @@
+-- Trials in order exist, with just the memory that is wanted. Assumes nothing.
+use Rattle.std.specs.Prelude.{◌≡◌, ℕ, suc, ◌+◌, ◌-◌, ◌*◌, true, List, replicate, pos}
+use Rattle.field.specs.Field.{FieldModel}
+use Rattle.board.specs.declared.moves.Move.{Move}
+use Rattle.board.specs.Grids.{grid_allowed}
+use Rattle.season.specs.Squares.{squares_question}
+use Rattle.writer.specs.declared.writer.TheConstants.{ENOUGH_PAPER}
+use Rattle.play.specs.Trials.{InOrder}
+
+-- on every allowed grid, at every point and for all moves a trial of the squares is in order with h × v counts, v sums, a tray of D + 1 + v elements,
+-- where D is 2 (h − 1), and 9,216 bytes of paper
+abbrev pub OrdersMet : {K : Type 0} → FieldModel K → Type 0
+OrdersMet {K} F =
+    (h v : ℕ) → grid_allowed h v ≡ true → (r : K) (ms : List Move)
+    → InOrder F h v r ms (squares_question F) (replicate (h * v) (pos 0)) (replicate v F.zero) (replicate (suc (2 * (h - 1)) + v) F.zero) (replicate ENOUGH_PAPER 0)
