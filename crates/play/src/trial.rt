@@ -2,15 +2,34 @@
 ghost use Rattle.std.specs.Prelude.{◌≡◌, Ok};
 ghost use Rattle.promise.specs.Claims.{true_count};
 ghost use Rattle.promise.specs.Promise.{Promised};
+ghost use Rattle.board.specs.Banks.{cells_of};
 ghost use Rattle.play.specs.Memories.{contents_of, SameLenders};
 ghost use Rattle.play.specs.Trials.{exchanged, trial, InOrder};
 
 use crate::memory::Memory;
 use crate::telling::{tell_host, tell_verifier};
-use board::Move;
+use board::{Bank, Move};
 use field::Field;
 use question::Question;
 use refusal::Refusal;
+
+// A sealed host answers a question, and a sealed box judges the sheet.
+fn judge_answer<F: Field, Q: Question<F>>(
+    host: &host::Sealed<F>,
+    counts: &Bank<'_, i32>,
+    verifier: &verifier::Sealed<F>,
+    sums: &Bank<'_, F>,
+    question: &Q,
+    tray: &mut [F],
+    paper: &mut [u8],
+) -> Result<i64, Refusal>
+    ensures { record { answer = result; memory = record { counts = cells_of counts.now; sums = cells_of sums.now; tray = tray.new; paper = paper.new } }
+        ≡ exchanged F.Field.model host.now verifier.now (Q.Question.meaning question.now)
+        (record { counts = cells_of counts.now; sums = cells_of sums.now; tray = tray.old; paper = paper.old }) }
+{
+    let (_, length) = host.answer(counts, question, tray, paper)?;
+    verifier.judge(sums, question, &paper[..length], tray)
+}
 
 /// A sealed host answers a question, and a sealed box judges the sheet: the count that the box accepts, or the first refusal, the host's
 /// before the box's. Both banks are as they were.
@@ -25,8 +44,40 @@ pub fn exchange<F: Field, Q: Question<F>>(
         (contents_of memory.old) }
     ensures lenders { SameLenders memory.old memory.new }
 {
-    let (_, length) = host.answer(&memory.counts, question, memory.tray, memory.paper)?;
-    verifier.judge(&memory.sums, question, &memory.paper[..length], memory.tray)
+    let counts = Bank::new(memory.counts);
+    let sums = Bank::new(memory.sums);
+    judge_answer(
+        host,
+        &counts,
+        verifier,
+        &sums,
+        question,
+        memory.tray,
+        memory.paper,
+    )
+}
+
+// A trial, of which the contract says just what it answers and leaves.
+fn open_and_exchange<F: Field, Q: Question<F>>(
+    rows: u64,
+    columns: u64,
+    point: F,
+    moves: &[Move],
+    question: &Q,
+    memory: &mut Memory<'_, F>,
+) -> Result<i64, Refusal>
+    ensures trial { record { answer = result; memory = contents_of memory.new }
+        ≡ trial F.Field.model rows columns point moves.now (Q.Question.meaning question.now)
+        (contents_of memory.old) }
+    ensures lenders { SameLenders memory.old memory.new }
+{
+    let mut counts = Bank::new(memory.counts);
+    let mut sums = Bank::new(memory.sums);
+    let mut host = host::Listening::<F>::open(rows, columns, &mut counts)?;
+    let mut verifier = verifier::Listening::open(rows, columns, point, &mut sums)?;
+    tell_host(&mut host, &mut counts, moves);
+    tell_verifier(&mut verifier, &mut sums, moves);
+    exchange(&host.seal(), &verifier.seal(), question, memory)
 }
 
 /// Opens a host and a box on the same grid, tells both the moves, seals them, has the host answer the question and the box judge the
@@ -50,9 +101,5 @@ pub fn play_trial<F: Field, Q: Question<F>>(
         ≡ Ok (true_count F.Field.model rows columns moves.now (Q.Question.meaning question.now)) }
     ensures lenders { SameLenders memory.old memory.new }
 {
-    let mut host = host::Listening::<F>::open(rows, columns, &mut memory.counts)?;
-    let mut verifier = verifier::Listening::open(rows, columns, point, &mut memory.sums)?;
-    tell_host(&mut host, &mut memory.counts, moves);
-    tell_verifier(&mut verifier, &mut memory.sums, moves);
-    exchange(&host.seal(), &verifier.seal(), question, memory)
+    open_and_exchange(rows, columns, point, moves, question, memory)
 }
