@@ -23,9 +23,22 @@ fn judge_answer<F: Field, Q: Question<F>>(
     tray: &mut [F],
     paper: &mut [u8],
 ) -> Result<i64, Refusal>
-    ensures { record { answer = result; memory = record { counts = cells_of counts.now; sums = cells_of sums.now; tray = tray.new; paper = paper.new } }
+    ensures { record {
+      answer = result;
+      memory = record {
+        counts = cells_of counts.now;
+        sums = cells_of sums.now;
+        tray = tray.new;
+        paper = paper.new;
+      };
+    }
         ≡ exchanged F.Field.model host.now verifier.now (Q.Question.meaning question.now)
-        (record { counts = cells_of counts.now; sums = cells_of sums.now; tray = tray.old; paper = paper.old }) }
+        (record {
+          counts = cells_of counts.now;
+          sums = cells_of sums.now;
+          tray = tray.old;
+          paper = paper.old;
+        }) }
 {
     let (_, length) = host.answer(counts, question, tray, paper)?;
     verifier.judge(sums, question, &paper[..length], tray)
