@@ -4,12 +4,13 @@ use Rattle.std.specs.Option.{option_map}
 use Rattle.std.proofs.Common.{sym, ap, ap₂, ◌∙◌, inl, inr, arith}
 use Rattle.std.proofs.Math.Nat.{zero-mod}
 use Rattle.std.proofs.Math.Bool.{and-true}
+use Rattle.field.specs.declared.limits.TheConstants.{INVERSES}
 use Rattle.field.specs.Field.{FieldModel, Ring, Images, Inverses, Parts, LawfulField, LawfulBase, PartsOf, same, inverse}
 use Rattle.field.proofs.Consequences.{inv_unique, image_nonzero}
 use Rattle.field.proofs.Sameness.{decided, square_zero, some_inverse, none_inverse}
 use Rattle.field.proofs.Solver.{sides, solve, solve_by₂}
 use Rattle.extension.specs.Pairs.{pair, norm, conjugate_times, quadratic}
-use Rattle.extension.specs.declared.pair.Extension.{Extension}
+use Rattle.extension.specs.declared.extension.Extension.{Extension}
 
 -- pairs with equal parts are equal
 pub pair_path : {B : Type 0} {x y : Extension B} → x.a ≡ y.a → x.b ≡ y.b → x ≡ y
@@ -142,7 +143,7 @@ module _ {B : Type 0} (F : FieldModel B) (w : B) (L : LawfulField F) (base : Law
   }
 
   -- the inverse of a whole number is that of the base
-  pub pair_number : (n : ℕ) → 1 ≤ n → n ≤ 252 → pair (inv (image (pos n))) zero ≡ (quadratic F w).inv (pair (image (pos n)) zero)
+  pub pair_number : (n : ℕ) → 1 ≤ n → n ≤ INVERSES → pair (inv (image (pos n))) zero ≡ (quadratic F w).inv (pair (image (pos n)) zero)
   pair_number n lo hi =
       let x = image (pos n) in
       let unit = L.inverses.mul-inv x (image_nonzero L n lo (omega (arith, L.bounds.characteristic_least))) in

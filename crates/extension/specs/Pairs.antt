@@ -1,6 +1,6 @@
 -- The quadratic extension of a base field: pairs a + b t with t × t = w.
 use Rattle.field.specs.Field.{FieldModel}
-use Rattle.extension.specs.declared.pair.Extension.{Extension}
+use Rattle.extension.specs.declared.extension.Extension.{Extension}
 
 -- a + b t
 abbrev pub pair : {B : Type 0} → B → B → Extension B

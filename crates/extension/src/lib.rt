@@ -1,8 +1,7 @@
-// The quadratic extension of any base field.
+//! The quadratic extension of any base field: pairs a + b t,
+//! where t × t is the element that the base field names, which is no square.
 #![tactic(auto)]
 
-mod conjugate;
-pub mod pair;
-pub mod quadratic;
+mod extension;
 
-pub use pair::Extension;
+pub use extension::Extension;

@@ -1,5 +1,5 @@
 // What the tests of every field share: elements by their parts, and checks of tables of values.
-use field::Field;
+use field::{Field, INVERSES};
 use std::process::Abort;
 use std::test::Fail;
 
@@ -17,35 +17,20 @@ pub(crate) struct Case {
     pub(crate) inverse: Pair,
 }
 
-// The element with these parts; a failed test where the field has none.
-fn element<F: Field>(rt: &impl Abort, parts: Pair) -> F {
-    let (low, high) = parts;
-    assert!(rt; low < F::characteristic());
-    assert!(rt; high < F::characteristic());
-    if F::degree() == 1 {
-        assert!(rt; high == 0);
-    }
-    F::of_parts(low, high)
-}
-
 pub(crate) fn parts<F: Field>(x: F) -> Pair {
     (x.low(), x.high())
 }
 
 fn check_case<F: Field>(rt: &impl Abort, case: Case) -> Result<(), Fail> {
-    let x: F = element(rt, case.left);
-    let y: F = element(rt, case.right);
+    let (low, high) = case.left;
+    let x = F::element(low, high).ok_or("no element on the left")?;
+    let (low, high) = case.right;
+    let y = F::element(low, high).ok_or("no element on the right")?;
     let i = x.inverse().ok_or("no inverse")?;
     assert!(rt; (x == y) == (case.left == case.right));
     assert_eq!(rt; (parts(x), parts(y)), (case.left, case.right));
-    assert_eq!(rt;
-        (parts(x.sum(y)), parts(x.product(y))),
-        (case.sum, case.product)
-    );
-    assert_eq!(rt;
-        (parts(x.opposite()), parts(i)),
-        (case.opposite, case.inverse)
-    );
+    assert_eq!(rt; (parts(x + y), parts(x * y)), (case.sum, case.product));
+    assert_eq!(rt; (parts(-x), parts(i)), (case.opposite, case.inverse));
     Ok(())
 }
 
@@ -67,10 +52,17 @@ fn check_images<F: Field>(rt: &impl Abort, cases: &[(i32, u32)]) {
 
 // The characteristic, the degree and the limit; zero, one, and the inverses of 1 to 252.
 fn check_numbers<F: Field>(rt: &impl Abort, numbers: (u32, u32, u32)) {
-    assert_eq!(rt; (F::characteristic(), F::degree(), F::limit()), numbers);
+    assert_eq!(rt; (F::CHARACTERISTIC, F::DEGREE, F::LIMIT), numbers);
     assert_eq!(rt; (parts(F::zero()), parts(F::one())), ((0, 0), (1, 0)));
-    for n in 1..=252 {
-        assert!(rt; F::image(n as i32).product(F::inverse_of(n)) == F::one());
+    for n in 1..=INVERSES {
+        assert!(rt; F::image(n as i32) * F::inverse_of(n) == F::one());
+    }
+}
+
+// Pairs of numbers that are parts of no element.
+pub(crate) fn check_no_elements<F: Field>(rt: &impl Abort, pairs: &[Pair]) {
+    for &(low, high) in pairs {
+        assert!(rt; F::element(low, high).is_none());
     }
 }
 

@@ -1,7 +1,6 @@
 // The two quadratic extensions.
 use crate::cases::*;
-use extension::Extension;
-use prime::{Mersenne31, Mod65537};
+use fields::{Mersenne31x2, Mod65537x2};
 use std::test::Fail;
 
 // t times t is 3.
@@ -74,7 +73,7 @@ const CASES_65537: [Case; 8] = [
 
 #[test]
 fn over_65537(rt: HostRuntime) -> Result<(), Fail> {
-    check_field::<Extension<Mod65537>>(
+    check_field::<Mod65537x2>(
         &rt,
         (65537, 2, 256),
         &CASES_65537,
@@ -84,7 +83,9 @@ fn over_65537(rt: HostRuntime) -> Result<(), Fail> {
             (2147483647, 32768),
             (-2147483647, 32769),
         ],
-    )
+    )?;
+    check_no_elements::<Mod65537x2>(&rt, &[(65537, 0), (0, 65537), (4294967295, 4294967295)]);
+    Ok(())
 }
 
 // t times t is 2,147,483,646, which is −1.
@@ -157,10 +158,12 @@ const CASES_2147483647: [Case; 8] = [
 
 #[test]
 fn over_2147483647(rt: HostRuntime) -> Result<(), Fail> {
-    check_field::<Extension<Mersenne31>>(
+    check_field::<Mersenne31x2>(
         &rt,
         (2147483647, 2, 46340),
         &CASES_2147483647,
         &[(0, 0), (-1, 2147483646), (2147483647, 0), (-2147483647, 0)],
-    )
+    )?;
+    check_no_elements::<Mersenne31x2>(&rt, &[(2147483647, 0), (0, 2147483647)]);
+    Ok(())
 }

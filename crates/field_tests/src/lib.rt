@@ -1,8 +1,11 @@
-// Tests of the four fields, against values computed by another program.
+//! Tests of the four fields, against values computed by another program,
+//! and of the choice of one by its numbers.
 #![tactic(auto)]
 
 #[cfg(test)]
 mod cases;
+#[cfg(test)]
+mod choices;
 #[cfg(test)]
 mod extensions;
 #[cfg(test)]

@@ -1,7 +1,7 @@
 // The two prime fields.
 use crate::cases::*;
 use field::BaseField;
-use prime::{Mersenne31, Mod65537};
+use fields::{Mersenne31, Mod65537};
 use std::test::Fail;
 
 const CASES_65537: [Case; 8] = [
@@ -90,6 +90,7 @@ fn modulo_65537(rt: HostRuntime) -> Result<(), Fail> {
             (-2147483647, 32769),
         ],
     )?;
+    check_no_elements::<Mod65537>(&rt, &[(65537, 0), (4294967295, 0), (0, 1), (65536, 65536)]);
     assert_eq!(rt; parts(Mod65537::non_square()), (3, 0));
     Ok(())
 }
@@ -178,6 +179,7 @@ fn modulo_2147483647(rt: HostRuntime) -> Result<(), Fail> {
             (-2147483647, 0),
         ],
     )?;
+    check_no_elements::<Mersenne31>(&rt, &[(2147483647, 0), (4294967295, 0), (0, 1)]);
     assert_eq!(rt; parts(Mersenne31::non_square()), (2147483646, 0));
     Ok(())
 }

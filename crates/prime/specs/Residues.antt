@@ -8,6 +8,10 @@ use Rattle.prime.specs.declared.residue.Residue.{Residue}
 abbrev pub residue_of : (P : ℕ) → 0 < P → ℕ → Residue P
 residue_of P h n = record { value = n % P; small = mod-lt n h }
 
+-- the number from 0 to P - 1 that a residue is
+abbrev pub value_of : {P : ℕ} → Residue P → ℕ
+value_of x = x.value
+
 -- a modulus that leaves a residue is above 0
 pub positive : {P : ℕ} → Residue P → 0 < P
 positive x = omega (arith, x.small)

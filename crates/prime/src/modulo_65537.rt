@@ -11,7 +11,8 @@ use crate::residue::Residue;
 use crate::table_65537::INVERSES;
 use field::{BaseField, Field};
 
-// 65,537 is a prime; the limit of weights is 256, and 3 is no square.
+/// The field of the residues modulo the prime 65,537.
+/// The limit of weights is 256, and 3 is no square.
 pub type Mod65537 = Residue<65537>;
 
 impl Modulus<65537> for Residue<65537> {
@@ -32,27 +33,29 @@ impl Modulus<65537> for Residue<65537> {
     }
 }
 
-// 65,537 is prime.
+/// 65,537 is prime: a theorem, with nothing to run.
 #[tactic(auto, using(crate::specs::Primality::prime_65537))]
 pub fn is_prime_65537()
     ensures { Prime 65537 }
 {}
 
-// The limit of the weight of a board's moves modulo 65,537.
+/// The limit of the weight of a board's moves modulo 65,537: 256.
 pub fn limit_65537() -> u32
     ensures { result ≡ 256 }
 {
-    Mod65537::limit()
+    <Mod65537 as Field>::LIMIT
 }
 
-// The number that makes the extension: t × t is 3. That it is no square modulo 65,537 says `is_lawful_65537`.
+/// The number that makes the extension: t × t is 3.
+/// That it is no square modulo 65,537 says `is_lawful_65537`.
 pub fn non_square_65537() -> u32
     ensures { result ≡ 3 }
 {
     Mod65537::non_square().value()
 }
 
-// The residues modulo 65,537 are a lawful field, and with 3, which is no square, a lawful base of the extension.
+/// The residues modulo 65,537 are a lawful field, and with 3, which is no square,
+/// a lawful base of the extension: a theorem, with nothing to run.
 #[tactic(auto, using(crate::specs::Fields::lawful_65537, crate::specs::Fields::base_65537))]
 pub fn is_lawful_65537()
     ensures field { LawfulField (prime_field 65537 (lit< tt) 256) }

@@ -3,7 +3,7 @@ use Rattle.std.specs.Option.{option_map}
 use Rattle.field.specs.Field.{inverse}
 use Rattle.extension.specs.Pairs.{conjugate_times}
 use Rattle.extension.specs.Laws.{inverse_by_norm}
-use Rattle.extension.proofs.quadratic.ExtensionField.inverse.Goals as goal
+use Rattle.extension.proofs.extension.ExtensionField.inverse.Goals as goal
 
 -- the conjugate over the norm, and nothing where the norm is zero
 pub returns : goal.returns

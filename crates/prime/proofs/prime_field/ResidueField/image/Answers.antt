@@ -2,9 +2,9 @@ use Rattle.std.proofs.Common.{◌*◌, ◌<◌, pos, ◌+ℤ◌, sym, ap, ◌∙
 use Rattle.std.proofs.lemmas.Int.{to_z-of_z}
 use Rattle.prime.specs.Equality.{residue_path}
 use Rattle.prime.specs.Remainders.{modulo_raised, modulo-mod}
-use Rattle.prime.proofs.arithmetic.ResidueField.image.Goals as goal
+use Rattle.prime.proofs.prime_field.ResidueField.image.Goals as goal
 
--- the code's three cases are those of a remainder: below zero with a rest, below zero without, and not below zero
+-- the raised number leaves what the number leaves
 pub returns : goal.returns
 returns g c =
     let P = g.row.P in

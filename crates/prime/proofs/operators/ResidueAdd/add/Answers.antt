@@ -1,8 +1,8 @@
 use Rattle.std.proofs.Common.{◌≡◌, ◌+◌, ◌-◌, ◌%◌, ◌<◌, sym, ◌∙◌, mod-eq_of_lt, arith}
 use Rattle.prime.specs.Equality.{residue_path}
 use Rattle.prime.specs.Remainders.{over_mod}
-use Rattle.prime.proofs.arithmetic.ResidueField.sum.Goals as goal
-use Rattle.prime.proofs.arithmetic.ResidueField.sum.Goals.{then-total, else-total}
+use Rattle.prime.proofs.operators.ResidueAdd.add.Goals as goal
+use Rattle.prime.proofs.operators.ResidueAdd.add.Goals.{then-total, else-total}
 
 -- where the total is P or more, one subtraction gives the remainder
 pub returns : goal.returns

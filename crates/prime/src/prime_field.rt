@@ -1,5 +1,6 @@
-// The prime field of the residues modulo P, for every modulus P. No operation but the inverse has a loop; a sum and an opposite take no division.
-ghost use Rattle.std.specs.Prelude.{◌≡◌, ◌*◌, ◌<◌, pos, ◌+ℤ◌};
+// The prime field of the residues modulo P, for every modulus P.
+// No operation but the inverse has a loop.
+ghost use Rattle.std.specs.Prelude.{◌≡◌, ◌*◌, ◌<◌, pos, ◌+ℤ◌, refl};
 ghost use Rattle.std.proofs.Math.Bool.{and-true};
 ghost use Rattle.std.proofs.Common.{sym, rules};
 ghost use Rattle.prime.specs.Residues.{prime_field, residue_of};
@@ -9,7 +10,8 @@ use crate::modulus::Modulus;
 use crate::residue::Residue;
 use field::{BaseField, Field};
 
-// A number and so many times P that the sum is not negative: it leaves what the number leaves, with no case for its sign.
+// A number and so many times P that the sum is not negative:
+// it leaves what the number leaves, with no case for its sign.
 fn raised(n: i32, p: u32) -> u64
     requires { 0 < p }
     ensures { pos result ≡ n +ℤ pos (p * 2147483648) }
@@ -23,21 +25,42 @@ where
 {
     ghost model = { prime_field P ⟦<Residue<P> as Modulus<P>>⟧.positive ⟦<Residue<P> as Modulus<P>>⟧.LIMIT };
 
-    ghost lawful = { lawful {w = ⟦<Residue<P> as Modulus<P>>⟧.NON_SQUARE} ⟦<Residue<P> as Modulus<P>>⟧.positive (Prim.search rules) };
+    ghost CHARACTERISTIC = { P };
+
+    const CHARACTERISTIC: u32 = P;
+
+    ghost DEGREE = { 1 };
+
+    const DEGREE: u32 = 1;
+
+    ghost LIMIT = { ⟦<Residue<P> as Modulus<P>>⟧.LIMIT };
+
+    const LIMIT: u32 = <Self as Modulus<P>>::LIMIT;
+
+    ghost lawful = { lawful
+        {w = ⟦<Residue<P> as Modulus<P>>⟧.NON_SQUARE}
+        ⟦<Residue<P> as Modulus<P>>⟧.positive
+        (Prim.search rules) };
 
     ghost equality = { λ x y. sym (and-true _) };
 
-    fn characteristic() -> u32 {
-        P
-    }
+    ghost characteristic_is = { refl };
 
-    fn degree() -> u32 {
-        1
-    }
+    ghost degree_is = { refl };
 
-    fn limit() -> u32 {
-        <Self as Modulus<P>>::LIMIT
-    }
+    ghost limit_is = { refl };
+
+    ghost can_add_law = { λ x y. tt };
+
+    ghost add_law = { λ x y z h. h };
+
+    ghost can_mul_law = { λ x y. tt };
+
+    ghost mul_law = { λ x y z h. h };
+
+    ghost can_neg_law = { λ x. tt };
+
+    ghost neg_law = { λ x z h. h };
 
     fn zero() -> Self {
         Residue { value: 0 }
@@ -45,23 +68,6 @@ where
 
     fn one() -> Self {
         Residue { value: 1 }
-    }
-
-    fn sum(self, other: Self) -> Self {
-        let total = self.value + other.value;
-        let value = if total < P { total } else { total - P };
-        Residue { value }
-    }
-
-    fn opposite(self) -> Self {
-        let value = if self.value > 0 { P - self.value } else { 0 };
-        Residue { value }
-    }
-
-    fn product(self, other: Self) -> Self {
-        let wide = self.value as u64 * other.value as u64;
-        let value = (wide % P as u64) as u32;
-        Residue { value }
     }
 
     fn inverse(self) -> Option<Self> {

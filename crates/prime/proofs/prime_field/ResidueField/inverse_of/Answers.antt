@@ -1,7 +1,7 @@
 use Rattle.std.proofs.Common.{arith}
 use Rattle.prime.proofs.Table.{entry}
 use Rattle.prime.specs.Fields.{inverse_by_table}
-use Rattle.prime.proofs.arithmetic.ResidueField.inverse_of.Goals as goal
+use Rattle.prime.proofs.prime_field.ResidueField.inverse_of.Goals as goal
 
 -- the table's entry is below P
 pub invariant_of-result : goal.invariant_of-result
