@@ -1,2 +1,3 @@
-pub mod Passes
 pub mod Fills
+pub mod Parts
+pub mod Sheets

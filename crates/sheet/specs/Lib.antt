@@ -1,1 +1,4 @@
+pub mod Lines
+pub mod Sheets
 pub mod Readings
+pub mod Laws

@@ -1,71 +1,29 @@
--- The grammar of a sheet as one list of what is due, and what reading a sheet gives. Assumes nothing.
-use Rattle.std.specs.Prelude.{◌≡◌, ℕ, zero, suc, cond, List, [], ◌∷◌, ◌++◌, map, length, drop, ℤ, pos, Ok, Err, Result, ◌==◌, nat_lt, slice_index_or, unsigned_abs}
-use Rattle.field.specs.Field.{FieldModel, high_limit}
+-- What reading a sheet gives, and what reading it into a tray answers and leaves there. Assumes nothing.
+use Rattle.std.specs.Prelude.{◌≡◌, ℕ, suc, cond, List, [], ◌∷◌, ◌++◌, map, length, drop, ℤ, pos, Ok, Err, Result, nat_lt, slice_index_or, unsigned_abs}
+use Rattle.field.specs.Field.{FieldModel}
 use Rattle.board.specs.Banks.{filled}
-use Rattle.refusal.specs.declared.fault.Fault.TheVariants as fault
 use Rattle.refusal.specs.declared.refusal.Refusal.{Refusal}
 use Rattle.refusal.specs.declared.refusal.Refusal.TheVariants.{TrayShort}
-use Rattle.token.specs.Tokens.{cursor_start}
-use Rattle.expect.specs.declared.keyword.Keyword.TheVariants.{Sheet, Grid, Claim, At, End}
+use Rattle.text.specs.Forms.{form_reading}
 use Rattle.sheet.specs.declared.terms.Terms.{Terms}
-use Rattle.expect.specs.Dues.{Fixed.opening, Fixed.closing, Fixed.line_end, Fixed.sheet_end, Fixed.word, Due, Due.the, Due.equal, Due.within, part_below, Passed, pass}
+use Rattle.sheet.specs.Lines.{sheet_lines}
 
--- the sheet's line, and the claim's line up to the claim, at characteristic p and degree e
-abbrev pub front : ℕ → ℕ → Terms → List Due
-front p e t =
-    the opening ∷ the (word Sheet) ∷ equal p fault.Field ∷ equal e fault.Field
-    ∷ the opening ∷ the (word Grid) ∷ equal t.rows fault.Grid ∷ equal t.columns fault.Grid ∷ the closing ∷ the closing ∷ the line_end
-    ∷ the opening ∷ the (word Claim) ∷ the opening ∷ equal t.tag.kind fault.Tag ∷ equal t.tag.first fault.Tag ∷ equal t.tag.second fault.Tag ∷ the closing ∷ []
-
--- the end of the claim's line
-abbrev pub form_end : List Due
-form_end = the closing ∷ the line_end ∷ []
-
--- the first two lines, of which the claim is kept
-abbrev pub claim_due : ℕ → ℕ → Terms → List Due
-claim_due p e t = front p e t ++ (within t.least t.greatest fault.Claim ∷ form_end)
-
--- value line j up to the low part
-abbrev pub line_front : ℕ → List Due
-line_front j = the opening ∷ the (word At) ∷ equal j fault.Index ∷ the opening ∷ []
-
--- the end of a value line
-abbrev pub line_back : List Due
-line_back = the closing ∷ the closing ∷ the line_end ∷ []
-
--- value line j, of which both parts are kept
-abbrev pub value_line : ℕ → ℕ → ℕ → List Due
-value_line p e j = line_front j ++ (part_below p ∷ part_below (high_limit p e) ∷ line_back)
-
--- the last line, and nothing but spaces after it
-abbrev pub ending : List Due
-ending = the opening ∷ the (word End) ∷ the closing ∷ the line_end ∷ the sheet_end ∷ []
-
--- n value lines from line j on, and the last line
-abbrev pub lines : ℕ → ℕ → ℕ → ℕ → List Due
-lines p e j zero = ending
-lines p e j (suc n) = value_line p e j ++ lines p e (suc j) n
-
--- the whole grammar: the first two lines, a value line for each of degree + 1 values, the last line
-abbrev pub due : ℕ → ℕ → Terms → List Due
-due p e t = claim_due p e t ++ lines p e 0 (suc t.degree)
-
--- the numbers kept of the value lines, two by two
+-- the numbers of the value lines, two by two
 abbrev pub paired : List ℤ → List (ℕ × ℕ)
 paired [] = []
 paired (low ∷ []) = []
 paired (low ∷ high ∷ zs) = (unsigned_abs low, unsigned_abs high) ∷ paired zs
 
--- of the numbers kept, the first is the claim and the others are the parts
-abbrev pub concluded : Passed → Result (ℤ × List (ℕ × ℕ)) Refusal
-concluded (Ok p) = Ok (slice_index_or p.0 0 (pos 0), paired (drop 1 p.0))
+-- of the numbers that a sheet states, the first is the claim and the others are the parts
+abbrev pub concluded : Result (List ℤ) Refusal → Result (ℤ × List (ℕ × ℕ)) Refusal
+concluded (Ok zs) = Ok (slice_index_or zs 0 (pos 0), paired (drop 1 zs))
 concluded (Err r) = Err r
 
--- the claim that a sheet states and the parts of its values, or the first fault
-abbrev pub parsed : ℕ → ℕ → Terms → List ℕ → Result (ℤ × List (ℕ × ℕ)) Refusal
-parsed p e t bs = concluded (pass (due p e t) [] (cursor_start bs))
-
 module _ {K : Type 0} (F : FieldModel K) where
+  -- the claim that a sheet states and the parts of its values, or the first fault
+  abbrev pub parsed : Terms → List ℕ → Result (ℤ × List (ℕ × ℕ)) Refusal
+  parsed t bs = concluded (form_reading (sheet_lines F t) bs)
+
   -- the elements with these parts
   abbrev pub elements : List (ℕ × ℕ) → List K
   elements ps = map (λ v. F.make v.0 v.1) ps
@@ -77,7 +35,7 @@ module _ {K : Type 0} (F : FieldModel K) where
 
   -- the claim that a sheet states and its values, or the first fault
   abbrev pub reading : Terms → List ℕ → Result (ℤ × List K) Refusal
-  reading t bs = valued (parsed F.characteristic F.degree t bs)
+  reading t bs = valued (parsed t bs)
 
   -- the claim of a reading
   abbrev pub claim_of : Result (ℤ × List K) Refusal → Result ℤ Refusal

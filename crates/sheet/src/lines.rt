@@ -1,81 +1,84 @@
-// The lines of a sheet, read in order.
-ghost use Rattle.std.specs.Prelude.{◌≡◌, ◌<◌, List, ℤ, IfOk};
-ghost use Rattle.expect.specs.Dues.{pass};
-ghost use Rattle.sheet.specs.Readings.{value_line, claim_due, ending};
-ghost use Rattle.expect.specs.Expectations.{passed_on, passed_number, passed_parts};
+// The lines of a sheet: the items of each.
+ghost use Rattle.std.specs.Prelude.{◌≡◌, map};
+ghost use Rattle.text.specs.Meanings.{item_of};
+ghost use Rattle.text.specs.Forms.{whole_form};
+ghost use Rattle.sheet.specs.Lines.{part_below, sheet_line, claim_line, value_line, end_line};
 
 use crate::terms::Terms;
-use refusal::{Fault, Refusal};
-use expect::{Due, Keyword, number, part, pass};
 use field::Field;
-use token::Reader;
+use refusal::Fault;
+use text::{Item, Keyword};
 
-// Reads the sheet's line and the claim's line.
-pub(crate) fn claim_lines<F: Field>(reader: &mut Reader<'_>, terms: &Terms) -> Result<i64, Refusal>
-    ensures { (kept : List ℤ) → passed_number kept result reader.new ≡ pass (claim_due F.Field.model.characteristic F.Field.model.degree terms.now) kept reader.old }
+// A part below a limit.
+fn part_below(limit: u32) -> Item
+    ensures { item_of result ≡ part_below limit }
 {
-    pass(
-        reader,
-        &[
-            Due::Open,
-            Due::Word(Keyword::Sheet),
-            Due::Number(F::CHARACTERISTIC, Fault::Field),
-            Due::Number(F::DEGREE, Fault::Field),
-            Due::Open,
-            Due::Word(Keyword::Grid),
-            Due::Number(terms.rows, Fault::Grid),
-            Due::Number(terms.columns, Fault::Grid),
-            Due::Close,
-            Due::Close,
-            Due::LineEnd,
-            Due::Open,
-            Due::Word(Keyword::Claim),
-            Due::Open,
-            Due::Number(terms.tag.kind, Fault::Tag),
-            Due::Number(terms.tag.first, Fault::Tag),
-            Due::Number(terms.tag.second, Fault::Tag),
-            Due::Close,
-        ],
-    )?;
-    let claim = number(reader, terms.least, terms.greatest, Fault::Claim)?;
-    pass(reader, &[Due::Close, Due::LineEnd])?;
-    Ok(claim)
+    Item::Stated(0, i64::from(limit) - 1, Fault::Part)
 }
 
-// Reads the parts of value line j.
-pub(crate) fn value_line<F: Field>(reader: &mut Reader<'_>, j: u32) -> Result<(u32, u32), Refusal>
-    ensures read { (kept : List ℤ) → passed_parts kept result reader.new ≡ pass (value_line F.Field.model.characteristic F.Field.model.degree j) kept reader.old }
-    ensures low { IfOk result (λ parts. parts.0 < F.Field.model.characteristic) }
-    ensures high { IfOk result (λ parts. parts.1 < F.Field.model.characteristic) }
-    ensures only { IfOk result (λ parts. (F.Field.model.degree ≡ 1 → parts.1 ≡ 0)) }
+/// The first line: the field and the grid.
+pub fn sheet_line<F: Field>(terms: &Terms) -> [Item; 11]
+    ensures { map item_of result ≡ sheet_line F.Field.model terms.now }
 {
-    pass(
-        reader,
-        &[
-            Due::Open,
-            Due::Word(Keyword::At),
-            Due::Number(j, Fault::Index),
-            Due::Open,
-        ],
-    )?;
-    let low = part(reader, F::CHARACTERISTIC)?;
-    let high = part(reader, F::high_limit())?;
-    pass(reader, &[Due::Close, Due::Close, Due::LineEnd])?;
-    Ok((low, high))
+    [
+        Item::Open,
+        Item::Word(Keyword::Sheet),
+        Item::Given(F::CHARACTERISTIC, Fault::Field),
+        Item::Given(F::DEGREE, Fault::Field),
+        Item::Open,
+        Item::Word(Keyword::Grid),
+        Item::Given(terms.rows, Fault::Grid),
+        Item::Given(terms.columns, Fault::Grid),
+        Item::Close,
+        Item::Close,
+        Item::LineEnd,
+    ]
 }
 
-// Reads the last line, and nothing but spaces after it.
-pub(crate) fn last_line(reader: &mut Reader<'_>) -> Result<(), Refusal>
-    ensures { (kept : List ℤ) → passed_on kept result reader.new ≡ pass ending kept reader.old }
+/// The claim's line: the question's tag, and the claim.
+pub fn claim_line(terms: &Terms) -> [Item; 10]
+    ensures { map item_of result ≡ claim_line terms.now }
 {
-    pass(
-        reader,
-        &[
-            Due::Open,
-            Due::Word(Keyword::End),
-            Due::Close,
-            Due::LineEnd,
-            Due::End,
-        ],
-    )
+    [
+        Item::Open,
+        Item::Word(Keyword::Claim),
+        Item::Open,
+        Item::Given(terms.tag.kind, Fault::Tag),
+        Item::Given(terms.tag.first, Fault::Tag),
+        Item::Given(terms.tag.second, Fault::Tag),
+        Item::Close,
+        Item::Stated(terms.least, terms.greatest, Fault::Claim),
+        Item::Close,
+        Item::LineEnd,
+    ]
+}
+
+/// Value line j, from 0: the parts of a value.
+pub fn value_line<F: Field>(j: u32) -> [Item; 9]
+    ensures { map item_of result ≡ value_line F.Field.model j }
+{
+    [
+        Item::Open,
+        Item::Word(Keyword::At),
+        Item::Given(j, Fault::Index),
+        Item::Open,
+        part_below(F::CHARACTERISTIC),
+        part_below(F::high_limit()),
+        Item::Close,
+        Item::Close,
+        Item::LineEnd,
+    ]
+}
+
+/// The last line, and nothing but spaces behind it.
+pub fn end_line() -> [Item; 5]
+    ensures { map item_of result ≡ whole_form end_line }
+{
+    [
+        Item::Open,
+        Item::Word(Keyword::End),
+        Item::Close,
+        Item::LineEnd,
+        Item::End,
+    ]
 }

@@ -1,9 +1,9 @@
 // The worked sheet, cut, changed and damaged.
 use crate::tables::{CHANGES, CUTS, SHEET};
 use board::Tag;
-use refusal::{Fault, Refusal};
 use field::Field;
 use prime::Mod65537;
+use refusal::{Fault, Refusal};
 use sheet::{Terms, read_sheet};
 use std::process::Abort;
 

@@ -1,4 +1,5 @@
-// Tests of the reading of sheets, against values that another reader computed.
+//! Tests of the reading of sheets, against values that another reader computed,
+//! and of what each refusal says.
 #![tactic(auto)]
 
 #[cfg(test)]

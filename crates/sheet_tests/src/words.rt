@@ -30,25 +30,21 @@ const REFUSALS: [(Refusal, u8, &str); 12] = [
     (
         Refusal::GridOutside,
         10,
-        "the rows or the columns are outside their limits",
+        "the rows are not 1 to 64, or the columns no multiple of 8 from 8 to 1,024",
     ),
     (Refusal::BankShort, 12, "the bank has too few cells"),
     (
         Refusal::CountOutside,
         13,
-        "a count, or the counts together, are beyond the field's limit",
+        "a count, or the absolute counts together, are beyond the field's limit",
     ),
     (
         Refusal::QuestionUnfit,
         20,
-        "the question does not suit the grid",
+        "the question does not fit the grid, or its degree is not from h - 1 to 252",
     ),
     (Refusal::TrayShort, 21, "the tray has too few elements"),
-    (
-        Refusal::PaperShort,
-        22,
-        "the paper has too few bytes, or the values are too many",
-    ),
+    (Refusal::PaperShort, 22, "the paper is too short"),
     (
         AT,
         42,
@@ -70,7 +66,7 @@ const FAULTS: [(Fault, u8, &str); 8] = [
     (
         Fault::Malformed,
         30,
-        "a run that is neither a word nor a number",
+        "a run that is neither a word of 1 to 8 letters nor a number of 1 to 10 digits",
     ),
     (
         Fault::Unexpected,
@@ -91,13 +87,13 @@ const FAULTS: [(Fault, u8, &str); 8] = [
     (
         Fault::Claim,
         43,
-        "the claim is outside the question's limits",
+        "the claim is outside the question's least to greatest claim",
     ),
     (Fault::Index, 44, "the value line is not the next one"),
     (
         Fault::Part,
         45,
-        "a part of a value is no part of an element",
+        "a part of a value is not from 0 to p - 1, or a high part is not 0 where e is 1",
     ),
 ];
 

@@ -7,7 +7,9 @@ use Rattle.std.proofs.lemmas.List.{drop-drop, drop_more}
 use Rattle.std.proofs.lemmas.Int.{ints}
 use Rattle.std.proofs.lemmas.Bool.{and_from}
 use Rattle.std.proofs.lemmas.Slice.{take-put_mid, drop-put_mid}
-use Rattle.layout.specs.Marks.{Mark}
+use Rattle.text.specs.Items.{Item, Item.the, Item.given, Item.stated, stated_count_of, stated_count}
+use Rattle.text.specs.Marks.{Mark, Mark.number, item_mark, marks}
+use Rattle.text.proofs.Passes.{count_next}
 use Rattle.writer.specs.Texts.{mark_bytes, spaced_bytes, spaced_before, spaced_after, written_on}
 use Rattle.writer.specs.Papers.{Lays}
 
@@ -91,20 +93,40 @@ putting_more p cs more e l = record { sofar = p.sofar ++ cs; lays = lays_more p.
 pub putting_all : {total before paper rest : List ℕ} {at end : ℕ} → Putting total before at paper end rest → rest ≡ [] → Lays total before at paper end
 putting_all p e = lays_as (sym (append-nil p.sofar) ∙ ap (λ zs. p.sofar ++ zs) (sym e) ∙ p.split) p.lays
 
--- marks that are read off a list, one by one
-module _ {X : Type 0} (f : X → Mark) (xs : List X) (i : ℕ) (space : Bool) where
-  mark_next : (d : X) → i < length xs → written_on space (map f (drop i xs)) ≡ spaced_bytes space (f (get_or xs i d)) ++ written_on (spaced_after (f (get_or xs i d))) (map f (drop (i + 1) xs))
-  mark_next d h = ap (λ ys. written_on space (map f ys)) (drop_more xs i d h)
+-- the marks of one item and of those behind it, with the numbers that are left
+marks_next : (d : Item) (ds : List Item) (zs : List ℤ) (n : ℤ) → stated_count_of d ≤ length zs → n ≡ get_or zs 0 (pos 0) → marks (d ∷ ds) zs ≡ item_mark d n ∷ marks ds (drop (stated_count_of d) zs)
+marks_next (the x) ds zs n few is = refl
+marks_next (given k f) ds zs n few is = refl
+marks_next (stated lo hi f) ds [] n few is = absurd (omega arith)
+marks_next (stated lo hi f) ds (z ∷ zs) n few is = ap (λ y. number y ∷ marks ds zs) (sym is)
 
-  module _ (d : X) (lt : i < length xs) {total before paper : List ℕ} {at end : ℕ} (p : Putting total before at paper end (written_on space (map f (drop i xs)))) where
-    pub mark_room : end + length (spaced_bytes space (f (get_or xs i d))) ≤ at + length total
-    mark_room = putting_room p (spaced_bytes space (f (get_or xs i d))) (written_on (spaced_after (f (get_or xs i d))) (map f (drop (i + 1) xs))) (mark_next d lt)
+-- items that are written one by one, each with the first of the numbers that are left
+module _ {X : Type 0} (f : X → Item) (xs : List X) (i : ℕ) (d : X) (lt : i < length xs) (space : Bool) (zs : List ℤ) (few : stated_count (map f (drop i xs)) ≤ length zs) (n : ℤ) (n-is : n ≡ get_or zs 0 (pos 0)) where
+  enough : stated_count_of (f (get_or xs i d)) ≤ length zs
+  enough = let r = count_next f xs i d lt in omega arith
 
-    pub mark_put : (space' : Bool) {after : List ℕ} {end' : ℕ} → space' ≡ spaced_after (f (get_or xs i d)) → Lays (spaced_bytes space (f (get_or xs i d))) paper end after end' → Putting total before at after end' (written_on space' (map f (drop (i + 1) xs)))
-    mark_put space' e l =
-        putting_more p (spaced_bytes space (f (get_or xs i d))) (written_on space' (map f (drop (i + 1) xs)))
-        (mark_next d lt ∙ ap (λ b. spaced_bytes space (f (get_or xs i d)) ++ written_on b (map f (drop (i + 1) xs))) (sym e))
-        l
+  abbrev rest : List Mark
+  rest = marks (map f (drop (i + 1) xs)) (drop (stated_count_of (f (get_or xs i d))) zs)
+
+  item_next : written_on space (marks (map f (drop i xs)) zs) ≡ spaced_bytes space (item_mark (f (get_or xs i d)) n) ++ written_on (spaced_after (item_mark (f (get_or xs i d)) n)) rest
+  item_next =
+      ap (λ ys. written_on space (marks (map f ys) zs)) (drop_more xs i d lt)
+      ∙ ap (written_on space) (marks_next (f (get_or xs i d)) (map f (drop (i + 1) xs)) zs n enough n-is)
+
+  -- with the space and the count as the code has them
+  module _ (space' : Bool) (k : ℕ) (s-is : space' ≡ spaced_after (item_mark (f (get_or xs i d)) n)) (k-is : k ≡ stated_count_of (f (get_or xs i d))) where
+    item_on : written_on space (marks (map f (drop i xs)) zs) ≡ spaced_bytes space (item_mark (f (get_or xs i d)) n) ++ written_on space' (marks (map f (drop (i + 1) xs)) (drop k zs))
+    item_on = item_next ∙ sym (λ j. spaced_bytes space (item_mark (f (get_or xs i d)) n) ++ written_on (s-is j) (marks (map f (drop (i + 1) xs)) (drop (k-is j) zs)))
+
+    pub item_left : length (written_on space (marks (map f (drop i xs)) zs)) ≡ length (spaced_bytes space (item_mark (f (get_or xs i d)) n)) + length (written_on space' (marks (map f (drop (i + 1) xs)) (drop k zs)))
+    item_left = ap length item_on ∙ length-append (spaced_bytes space (item_mark (f (get_or xs i d)) n)) (written_on space' (marks (map f (drop (i + 1) xs)) (drop k zs)))
+
+    pub item_put : {total before paper after : List ℕ} {at end end' : ℕ} → Putting total before at paper end (written_on space (marks (map f (drop i xs)) zs)) → Lays (spaced_bytes space (item_mark (f (get_or xs i d)) n)) paper end after end'
+        → Putting total before at after end' (written_on space' (marks (map f (drop (i + 1) xs)) (drop k zs)))
+    item_put p l = putting_more p (spaced_bytes space (item_mark (f (get_or xs i d)) n)) _ item_on l
+
+  pub item_room : {total before paper : List ℕ} {at end : ℕ} → Putting total before at paper end (written_on space (marks (map f (drop i xs)) zs)) → end + length (spaced_bytes space (item_mark (f (get_or xs i d)) n)) ≤ at + length total
+  item_room p = putting_room p (spaced_bytes space (item_mark (f (get_or xs i d)) n)) _ item_next
 
 -- a space, where both neighbours allow it
 pub with_space : (space : Bool) (m : Mark) → space ≡ true → spaced_before m ≡ true → 32 ∷ mark_bytes m ≡ spaced_bytes space m

@@ -1,17 +1,20 @@
--- The text that is written of a sheet: no leading zeros, one space between tokens, none just inside a bracket or at either end of a line. Assumes nothing.
-use Rattle.std.specs.Prelude.{ℕ, Bool, true, false, cond, ◌&&◌, List, [], ◌∷◌, ◌++◌, ℤ}
+-- The text that is written of items, and of a sheet: no leading zeros, one space between tokens, none just inside a bracket or at either end of a line. Assumes nothing.
+use Rattle.std.specs.Prelude.{ℕ, Bool, true, false, cond, ◌&&◌, List, [], ◌∷◌, ◌++◌, length, ℤ}
 use Rattle.std.specs.Fmt.{signed_decimal}
 use Rattle.field.specs.Field.{FieldModel}
+use Rattle.text.specs.Items.{Fixed.opening, Fixed.closing, Fixed.line_end, Fixed.text_end, Fixed.word, Item}
+use Rattle.text.specs.Marks.{Mark, Mark.fixed, Mark.number, marks, fixed_bytes}
+use Rattle.text.specs.Forms.{whole_form}
 use Rattle.sheet.specs.declared.terms.Terms.{Terms}
-use Rattle.expect.specs.Dues.{Fixed.opening, Fixed.closing, Fixed.line_end, Fixed.sheet_end, Fixed.word}
-use Rattle.layout.specs.Marks.{Mark, Mark.fixed, Mark.number, fixed_bytes, marks_of}
+use Rattle.sheet.specs.Lines.{counted_lines}
+use Rattle.sheet.specs.Sheets.{sheet_numbers}
 
 -- whether a space may follow: not inside a bracket, nor at the start of a line
 abbrev pub spaced_after : Mark → Bool
 spaced_after (fixed opening) = false
 spaced_after (fixed closing) = true
 spaced_after (fixed line_end) = false
-spaced_after (fixed sheet_end) = false
+spaced_after (fixed text_end) = false
 spaced_after (fixed (word k)) = true
 spaced_after (number z) = true
 
@@ -20,7 +23,7 @@ abbrev pub spaced_before : Mark → Bool
 spaced_before (fixed opening) = true
 spaced_before (fixed closing) = false
 spaced_before (fixed line_end) = false
-spaced_before (fixed sheet_end) = false
+spaced_before (fixed text_end) = false
 spaced_before (fixed (word k)) = true
 spaced_before (number z) = true
 
@@ -38,10 +41,10 @@ abbrev pub written_on : Bool → List Mark → List ℕ
 written_on space [] = []
 written_on space (m ∷ ms) = spaced_bytes space m ++ written_on (spaced_after m) ms
 
--- the bytes of marks
-abbrev pub written : List Mark → List ℕ
-written ms = written_on false ms
+-- the text of items that state the numbers zs
+abbrev pub form_text : List Item → List ℤ → List ℕ
+form_text ds zs = written_on false (marks ds zs)
 
 -- the text of the sheet that states the claim c and the values xs
 abbrev pub text : {K : Type 0} → FieldModel K → Terms → ℤ → List K → List ℕ
-text F t c xs = written (marks_of F t c xs)
+text F t c xs = form_text (whole_form (counted_lines F t (length xs))) (sheet_numbers F c xs)

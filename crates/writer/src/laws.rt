@@ -1,15 +1,22 @@
-// The laws of writing, over every field.
-ghost use Rattle.writer.specs.Laws.{ReadsBack, TextFits};
+// The laws of writing.
+ghost use Rattle.writer.specs.Laws.{FormsReadBack, ReadsBack, TextFits};
 
 use field::Field;
 
-// What is written is read back.
+/// Whatever the form, what is written of numbers of at most ten digits in their ranges is read
+/// back.
+#[tactic(auto, using(crate::proofs::Texts::forms_read_back))]
+pub fn forms_read_back()
+    ensures { FormsReadBack }
+{}
+
+/// A sheet that is written is read back, over every field.
 #[tactic(auto, using(crate::proofs::Texts::reads_back))]
 pub fn reads_back<F: Field>()
     ensures { ReadsBack F.Field.model }
 {}
 
-// 9,216 bytes suffice for 253 values.
+/// `ENOUGH_PAPER` bytes suffice for `MOST_VALUES` values, over every field.
 pub fn text_fits<F: Field>()
     ensures { TextFits F.Field.model }
 {}

@@ -1,26 +1,44 @@
-// A pen over paper of the caller's. Each method puts bytes where the pen is, for which there is room, and leaves the pen behind them.
-ghost use Rattle.std.specs.Prelude.{◌≡◌, [], ◌∷◌, decimal};
+// A pen over paper of the caller's: it puts bytes where it is, for which there is room, and goes on
+// behind them.
+ghost use Rattle.std.specs.Prelude.{◌≡◌, ◌≤◌, ◌↔◌, [], ◌∷◌, map, length, decimal, IsTrue, OnOk, OnErr};
 ghost use Rattle.std.specs.Fmt.{signed_decimal};
-ghost use Rattle.writer.specs.Papers.{Room, Puts};
+ghost use Rattle.text.specs.Items.{stated_count};
+ghost use Rattle.text.specs.Marks.{item_mark};
+ghost use Rattle.text.specs.Meanings.{item_of};
+ghost use Rattle.writer.specs.Texts.{mark_bytes, spaced_bytes, form_text};
 
-// The whole paper and a place: a part of it alone could not be handed back as what the sheet lies on.
+use crate::measure::spaced_length;
+use crate::spaces::{first_or_zero, spaced_after, spaced_before, stated_count_of};
+use refusal::Refusal;
+use text::Item;
+
+/// A pen over paper of the caller's: the whole paper, and the place behind what it wrote.
 #[derive(Drop)]
-pub(crate) struct Pen<'a> {
-    pub(crate) paper: &'a mut [u8],
-    pub(crate) at: usize,
+pub struct Pen<'a> {
+    paper: &'a mut [u8],
+    at: usize,
 }
 
 impl<'a> Pen<'a> {
-    // A pen at the start of the paper.
-    pub(crate) fn new(paper: &'a mut [u8]) -> Pen<'a>
-        ensures paper { result.paper.now ≡ paper.old }
+    ghost use Rattle.writer.specs.Papers.{paper_of, place_of, Room, Puts, put_answer};
+
+    /// A pen at the start of the paper.
+    pub fn new(paper: &'a mut [u8]) -> Pen<'a>
+        ensures paper { paper_of result ≡ paper.old }
+        ensures start { place_of result ≡ 0 }
         ensures lender { result.paper.ghost_name ≡ paper.entry.ghost_name }
-        ensures start { result.at ≡ 0 }
     {
         Pen { paper, at: 0 }
     }
 
-    pub(crate) fn byte(&mut self, byte: u8)
+    /// How many bytes stand before the pen.
+    pub fn place(&self) -> usize
+        ensures { result ≡ place_of self.now }
+    {
+        self.at
+    }
+
+    fn byte(&mut self, byte: u8)
         requires { Room (byte ∷ []) self.old }
         ensures { Puts (byte ∷ []) self.old self.new }
     {
@@ -28,7 +46,7 @@ impl<'a> Pen<'a> {
         self.at += 1;
     }
 
-    pub(crate) fn bytes(&mut self, bytes: &[u8])
+    fn bytes(&mut self, bytes: &[u8])
         requires { Room bytes.now self.old }
         ensures { Puts bytes.now self.old self.new }
     {
@@ -39,7 +57,7 @@ impl<'a> Pen<'a> {
 
     // A natural number in decimal, by hand: a `write!` may fail, and this may not.
     #[tactic(auto, using(std::proofs::lemmas::Fmt::decimal_digit, std::proofs::lemmas::Fmt::decimal_nonempty, crate::proofs::Papers::front_fits, crate::proofs::Papers::lays_length, crate::proofs::Papers::lays_as))]
-    pub(crate) fn decimal(&mut self, n: u64)
+    fn decimal(&mut self, n: u64)
         requires { Room (decimal n) self.old }
         ensures { Puts (decimal n) self.old self.new }
     {
@@ -51,7 +69,7 @@ impl<'a> Pen<'a> {
     }
 
     // A whole number in decimal.
-    pub(crate) fn signed(&mut self, z: i64)
+    fn signed(&mut self, z: i64)
         requires { Room (signed_decimal z) self.old }
         ensures { Puts (signed_decimal z) self.old self.new }
     {
@@ -61,5 +79,89 @@ impl<'a> Pen<'a> {
         } else {
             self.decimal(z.unsigned_abs())
         }
+    }
+
+    // An item, with the number that may be stated there.
+    fn item(&mut self, item: Item, number: i64)
+        requires { Room (mark_bytes (item_mark (item_of item) number)) self.old }
+        ensures { Puts (mark_bytes (item_mark (item_of item) number)) self.old self.new }
+    {
+        match item {
+            Item::Open => self.byte(b'('),
+            Item::Close => self.byte(b')'),
+            Item::LineEnd => self.byte(b'\n'),
+            Item::Word(keyword) => self.bytes(keyword.text()),
+            Item::Given(n, _) => self.decimal(u64::from(n)),
+            Item::Stated(..) => self.signed(number),
+            Item::End => self.bytes(b""),
+        }
+    }
+
+    // An item, after a space where both neighbours allow it.
+    fn spaced(&mut self, space: bool, item: Item, number: i64)
+        requires { Room (spaced_bytes space (item_mark (item_of item) number)) self.old }
+        ensures { Puts (spaced_bytes space (item_mark (item_of item) number)) self.old self.new }
+    {
+        if space && spaced_before(item) {
+            self.byte(b' ');
+            self.item(item, number)
+        } else {
+            self.item(item, number)
+        }
+    }
+
+    // The items of a line, with these numbers.
+    pub(crate) fn put_items(&mut self, items: &[Item], numbers: &[i64])
+        requires numbers { stated_count (map item_of items.now) ≤ length numbers.now }
+        requires room { Room (form_text (map item_of items.now) numbers.now) self.old }
+        ensures { Puts (form_text (map item_of items.now) numbers.now) self.old self.new }
+    {
+        let mut space = false;
+        let mut rest = numbers;
+        for item in items {
+            self.spaced(space, *item, first_or_zero(rest));
+            space = spaced_after(*item);
+            rest = &rest[stated_count_of(*item)..];
+        }
+    }
+
+    // Whether there is room for the items of a line, with these numbers.
+    fn fits(&self, items: &[Item], numbers: &[i64]) -> bool
+        requires { stated_count (map item_of items.now) ≤ length numbers.now }
+        ensures { IsTrue result ↔ Room (form_text (map item_of items.now) numbers.now) self.now }
+    {
+        if self.paper.len() < self.at {
+            return false;
+        }
+        let mut room = self.paper.len() - self.at;
+        let mut space = false;
+        let mut rest = numbers;
+        for item in items {
+            let length = spaced_length(space, *item, first_or_zero(rest));
+            if room < length {
+                return false;
+            }
+            room -= length;
+            space = spaced_after(*item);
+            rest = &rest[stated_count_of(*item)..];
+        }
+        true
+    }
+
+    /// Writes the items of a line, with a number for each that is stated there, and goes on behind
+    /// them. Where there is no room for them it refuses with 22, and nothing changes.
+    pub fn items(&mut self, items: &[Item], numbers: &[i64]) -> Result<(), Refusal>
+        requires { stated_count (map item_of items.now) ≤ length numbers.now }
+        ensures answer { result
+            ≡ put_answer (form_text (map item_of items.now) numbers.now) self.old }
+        ensures line { OnOk result
+            (Puts (form_text (map item_of items.now) numbers.now) self.old self.new) }
+        ensures refused { OnErr result (self.new ≡ self.old) }
+    {
+        if !self.fits(items, numbers) {
+            return Err(Refusal::PaperShort);
+        }
+        self.put_items(items, numbers);
+        Ok(())
     }
 }

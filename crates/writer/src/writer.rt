@@ -1,56 +1,63 @@
 // Writing a sheet onto paper of the caller's.
 ghost use Rattle.std.specs.Prelude.{◌≡◌, ◌≤◌, length};
-ghost use Rattle.layout.specs.Marks.{line_marks, parts_of};
-ghost use Rattle.writer.specs.Texts.{written, text};
+ghost use Rattle.text.specs.Forms.{whole_form};
+ghost use Rattle.sheet.specs.Lines.{value_lines};
+ghost use Rattle.sheet.specs.Sheets.{part_numbers, parts_of};
+ghost use Rattle.writer.specs.Texts.{form_text, text};
 ghost use Rattle.writer.specs.Papers.{Lays, Room, Puts, write_answer, paper_after};
 
+use crate::limits::{ENOUGH_PAPER, MOST_VALUES};
 use crate::pen::Pen;
-use refusal::Refusal;
 use field::Field;
-use sheet::Terms;
+use refusal::Refusal;
+use sheet::{Terms, claim_line, end_line, sheet_line, value_line};
 
-// A sheet has at most this many values: one more than the largest degree.
-const MOST_VALUES: usize = 253;
-
-// No sheet of so many values has more bytes.
-pub const ENOUGH_PAPER: usize = 9216;
-
-impl Pen<'_> {
-    // The value lines and the last line.
-    fn values<F: Field>(&mut self, values: &[F])
-        requires { Room (written (line_marks 0 (parts_of F.Field.model values.now))) self.old }
-        ensures { Puts (written (line_marks 0 (parts_of F.Field.model values.now))) self.old self.new }
-    {
-        for (j, value) in values.iter().enumerate() {
-            self.value_line(j, value.low(), value.high());
-        }
-        self.last_line();
+// Puts the value lines and the last line.
+fn put_values<F: Field>(pen: &mut Pen<'_>, values: &[F])
+    requires few { length values.now ≤ MOST_VALUES }
+    requires room { Room
+        (form_text (whole_form (value_lines F.Field.model 0 (length values.now)))
+        (part_numbers (parts_of F.Field.model values.now)))
+        pen.old }
+    ensures { Puts
+        (form_text (whole_form (value_lines F.Field.model 0 (length values.now)))
+        (part_numbers (parts_of F.Field.model values.now)))
+        pen.old pen.new }
+{
+    for (j, value) in values.iter().enumerate() {
+        let parts = [i64::from(value.low()), i64::from(value.high())];
+        pen.put_items(&value_line::<F>(j as u32), &parts);
     }
-
-    // The sheet of a claim and values.
-    fn sheet<F: Field>(&mut self, terms: &Terms, claim: i64, values: &[F])
-        requires { Room (text F.Field.model terms.now claim values.now) self.old }
-        ensures { Puts (text F.Field.model terms.now claim values.now) self.old self.new }
-    {
-        self.sheet_line::<F>(terms);
-        self.claim_line(terms.tag, claim);
-        self.values(values);
-    }
+    pen.put_items(&end_line(), &[]);
 }
 
-// Puts the sheet of a claim and values at the start of the paper, on which there is room for it, and returns its length. Here and below the terms are
-// apart from the claim and the values: a question gives the one, and its count and its polynomial the others.
+// Puts the sheet of a claim and values. Here and below the terms are apart from the claim and the
+// values: a question gives the one, and its count and its polynomial the others.
+fn put_lines<F: Field>(pen: &mut Pen<'_>, terms: &Terms, claim: i64, values: &[F])
+    requires few { length values.now ≤ MOST_VALUES }
+    requires room { Room (text F.Field.model terms.now claim values.now) pen.old }
+    ensures { Puts (text F.Field.model terms.now claim values.now) pen.old pen.new }
+{
+    pen.put_items(&sheet_line::<F>(terms), &[]);
+    pen.put_items(&claim_line(terms), &[claim]);
+    put_values(pen, values);
+}
+
+// Puts the sheet of a claim and values at the start of the paper, on which there is room for it,
+// and returns its length.
 fn put_sheet<F: Field>(paper: &mut [u8], terms: &Terms, claim: i64, values: &[F]) -> usize
-    requires { length (text F.Field.model terms.now claim values.now) ≤ length paper.old }
+    requires few { length values.now ≤ MOST_VALUES }
+    requires room { length (text F.Field.model terms.now claim values.now) ≤ length paper.old }
     ensures { Lays (text F.Field.model terms.now claim values.now) paper.old 0 paper.new result }
 {
     let mut pen = Pen::new(paper);
-    pen.sheet(terms, claim, values);
-    pen.at
+    put_lines(&mut pen, terms, claim, values);
+    pen.place()
 }
 
-// Writes a sheet where it has no more values than a sheet may have and the paper is enough for every such sheet.
-// It takes the terms by value. Tried with a copy inside `write_sheet`: the proof does not close, since of numbers behind a reference it knows no range.
+// Writes a sheet where it has no more values than a sheet may have and the paper is enough for
+// every such sheet. It takes the terms by value: of numbers behind a reference the proof knows no
+// range.
 fn write<F: Field>(
     paper: &mut [u8],
     terms: Terms,
@@ -66,8 +73,9 @@ fn write<F: Field>(
     Ok(put_sheet(paper, &terms, claim, values))
 }
 
-// Writes the sheet of a claim and values at the start of the paper, and returns its length.
-// More than 253 values, or less than 9,216 bytes of paper, are refused alike, and nothing is written.
+/// Writes the sheet of a claim and values at the start of the paper, and returns its length; the
+/// bytes behind it stay as they were. More than `MOST_VALUES` values, or less than `ENOUGH_PAPER`
+/// bytes of paper, are refused alike, with 22, and nothing is written.
 pub fn write_sheet<F: Field>(
     paper: &mut [u8],
     terms: &Terms,

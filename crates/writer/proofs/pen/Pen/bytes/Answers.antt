@@ -4,4 +4,4 @@ use Rattle.writer.proofs.pen.Pen.bytes.Goals as goal
 
 -- bytes copied over a part of the paper are laid there
 pub returns : goal.returns
-returns c = (lays_bytes _ _ _ _ c.copy_from_slice.ensures.after c.requires, refl)
+returns c = record { lays = lays_bytes _ _ _ _ c.copy_from_slice.ensures.after c.requires; lender = refl }

@@ -10,14 +10,16 @@ decimal-requires c =
     let h : c.args.z <ℤ pos 0 = grind (arith, ints, to_z-of_z) in
     let e : 45 ∷ decimal c.unsigned_abs.result ≡ signed_decimal c.args.z = ap (λ n. 45 ∷ decimal n) (c.unsigned_abs.ensures.value ∙ ap nat_abs (to_z-of_z w64 c.args.z c.ranges.z)) ∙ signed_minus c.args.z h in
     let l = ap length e in
-    let k = lays_length c.byte.ensures.0 (omega arith) in
-    let i = c.byte.ensures.0.end_is in
+    let k = lays_length c.byte.ensures.lays (omega arith) in
+    let i = c.byte.ensures.lays.end_is in
     omega arith
 
 pub returns-then-z-lt0 : goal.returns-then-z-lt0
 returns-then-z-lt0 c =
-    let h : c.args.z <ℤ pos 0 = grind (arith, ints, to_z-of_z) in (
-      lays_as (ap (λ n. 45 ∷ decimal n) (c.unsigned_abs.ensures.value ∙ ap nat_abs (to_z-of_z w64 c.args.z c.ranges.z)) ∙ signed_minus c.args.z h)
-          (lays_more c.byte.ensures.0 c.decimal.ensures.0),
-      c.decimal.ensures.1 ∙ c.byte.ensures.1,
-    )
+    let h : c.args.z <ℤ pos 0 = grind (arith, ints, to_z-of_z) in
+    record {
+      lays =
+          lays_as (ap (λ n. 45 ∷ decimal n) (c.unsigned_abs.ensures.value ∙ ap nat_abs (to_z-of_z w64 c.args.z c.ranges.z)) ∙ signed_minus c.args.z h)
+          (lays_more c.byte.ensures.lays c.decimal.ensures.lays);
+      lender = c.decimal.ensures.lender ∙ c.byte.ensures.lender;
+    }

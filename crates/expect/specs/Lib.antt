@@ -1,2 +1,0 @@
-pub mod Dues
-pub mod Expectations

@@ -1,5 +1,0 @@
-use Rattle.layout.proofs.Sheets.{reads_allowed}
-use Rattle.layout.proofs.laws.reads_allowed.Goals as goal
-
-pub returns : goal.returns
-returns g c = reads_allowed g.F.Field.model

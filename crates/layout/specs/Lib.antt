@@ -1,3 +1,0 @@
-pub mod Marks
-pub mod Sheets
-pub mod Faults

@@ -1,0 +1,6 @@
+pub mod Tokens
+pub mod Readers
+pub mod Items
+pub mod Marks
+pub mod Forms
+pub mod Meanings

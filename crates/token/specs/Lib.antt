@@ -1,2 +1,0 @@
-pub mod Tokens
-pub mod Readers
