@@ -10,7 +10,7 @@ use Rattle.field.proofs.Consequences.{limit_small}
 use Rattle.polynomial.proofs.Sums.{length-listed}
 use Rattle.question.specs.Question.{QuestionModel}
 use Rattle.protocol.specs.Asking.{suits, terms_of, honest}
-use Rattle.writer.specs.declared.writer.TheConstants.{ENOUGH_PAPER}
+use Rattle.writer.specs.declared.limits.TheConstants.{MOST_VALUES, ENOUGH_PAPER}
 use Rattle.writer.specs.Papers.{write_answer, paper_after}
 use Rattle.writer.specs.Texts.{text}
 use Rattle.host.specs.Rows.{Ranged}
@@ -52,13 +52,13 @@ module _ {K : Type 0} (F : FieldModel K) (h v : ℕ) (bank : List ℤ) (q : Ques
   pub take_honest : (gs : List ℤ) → take (suc (q.degree h)) (tray_filled F h v q gs tray) ≡ honest F h v q gs
   take_honest gs = subst (λ n. take n (tray_filled F h v q gs tray) ≡ honest F h v q gs) (length-listed 0 (suc (q.degree h)) _) (take-append_seam (honest F h v q gs) _)
 
-  -- the sheet is written: there are 253 values at most, and paper enough
-  pub write_granted : (c : ℤ) (vs : List K) → length vs ≤ 253 → ENOUGH_PAPER ≤ length paper → write_answer F (terms_of q h v) c vs paper ≡ Ok (length (text F (terms_of q h v) c vs))
-  write_granted c vs few enough = ap₂ (λ a b. cond (a && b) (Ok (length (text F (terms_of q h v) c vs))) (Err PaperShort)) (le-leb (length vs) 253 few) (le-leb ENOUGH_PAPER (length paper) enough)
+  -- the sheet is written: there are as many values as a sheet may have, and paper enough
+  pub write_granted : (c : ℤ) (vs : List K) → length vs ≤ MOST_VALUES → ENOUGH_PAPER ≤ length paper → write_answer F (terms_of q h v) c vs paper ≡ Ok (length (text F (terms_of q h v) c vs))
+  write_granted c vs few enough = ap₂ (λ a b. cond (a && b) (Ok (length (text F (terms_of q h v) c vs))) (Err PaperShort)) (le-leb (length vs) MOST_VALUES few) (le-leb ENOUGH_PAPER (length paper) enough)
 
-  pub paper_granted : (c : ℤ) (vs : List K) → length vs ≤ 253 → ENOUGH_PAPER ≤ length paper → paper_after F (terms_of q h v) c vs paper ≡ text F (terms_of q h v) c vs ++ drop (length (text F (terms_of q h v) c vs)) paper
+  pub paper_granted : (c : ℤ) (vs : List K) → length vs ≤ MOST_VALUES → ENOUGH_PAPER ≤ length paper → paper_after F (terms_of q h v) c vs paper ≡ text F (terms_of q h v) c vs ++ drop (length (text F (terms_of q h v) c vs)) paper
   paper_granted c vs few enough =
-      ap₂ (λ a b. cond (a && b) (text F (terms_of q h v) c vs ++ drop (length (text F (terms_of q h v) c vs)) paper) paper) (le-leb (length vs) 253 few) (le-leb ENOUGH_PAPER (length paper) enough)
+      ap₂ (λ a b. cond (a && b) (text F (terms_of q h v) c vs ++ drop (length (text F (terms_of q h v) c vs)) paper) paper) (le-leb (length vs) MOST_VALUES few) (le-leb ENOUGH_PAPER (length paper) enough)
 
 -- counts that come to the limit at most have images
 pub light_ranged : {K : Type 0} {F : FieldModel K} (L : LawfulField F) (gs : List ℤ) → abs_sum gs ≤ F.limit → Ranged gs

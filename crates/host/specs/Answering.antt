@@ -8,7 +8,7 @@ use Rattle.field.specs.Field.{FieldModel}
 use Rattle.polynomial.specs.Columns.{columns_at}
 use Rattle.polynomial.specs.Interpolation.{node}
 use Rattle.question.specs.Question.{QuestionModel}
-use Rattle.writer.specs.declared.writer.TheConstants.{ENOUGH_PAPER}
+use Rattle.writer.specs.declared.limits.TheConstants.{ENOUGH_PAPER}
 use Rattle.writer.specs.Texts.{text}
 use Rattle.protocol.specs.Asking.{suits, terms_of, honest}
 

@@ -8,7 +8,7 @@ use Rattle.board.specs.Standing.{Standing}
 use Rattle.field.specs.Field.{FieldModel}
 use Rattle.question.specs.declared.fit.Fit.TheVariants as fit
 use Rattle.question.specs.Question.{QuestionModel, LawfulQuestion}
-use Rattle.writer.specs.declared.writer.TheConstants.{ENOUGH_PAPER}
+use Rattle.writer.specs.declared.limits.TheConstants.{ENOUGH_PAPER}
 use Rattle.host.specs.Answering.{Answered, answered_at}
 use Rattle.host.specs.Calls.{host_open_answer, host_open_bank}
 use Rattle.host.specs.Notes.{HostState, host_opened, host_after}

@@ -5,7 +5,7 @@ use Rattle.field.specs.Field.{FieldModel, LawfulField}
 use Rattle.board.specs.Ledger.{abs_sum}
 use Rattle.question.specs.Question.{QuestionModel, Fits, Within, LawfulQuestion}
 use Rattle.host.specs.Answering.{answer_ready, answered_by, answered}
-use Rattle.writer.specs.declared.writer.TheConstants.{ENOUGH_PAPER}
+use Rattle.writer.specs.declared.limits.TheConstants.{ENOUGH_PAPER}
 use Rattle.promise.proofs.Judgements.{suits_true}
 
 module _ {K : Type 0} {F : FieldModel K} (L : LawfulField F) (q : QuestionModel K) (Q : LawfulQuestion F q) (h v : ℕ) (fit : Fits q h v) (fs : List ℤ) (w : Within F h v fs) where

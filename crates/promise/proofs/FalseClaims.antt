@@ -11,7 +11,7 @@ use Rattle.polynomial.specs.Columns.{columns_at}
 use Rattle.polynomial.proofs.Counts.{Sorted, sort, split_length, distinct_first, distinct_second}
 use Rattle.question.specs.Question.{Fits, LawfulQuestion}
 use Rattle.protocol.specs.Asking.{is_fit, terms_of}
-use Rattle.layout.proofs.Sheets.{reads_sheets}
+use Rattle.sheet.proofs.Sheets.{reads_sheets}
 use Rattle.promise.specs.Counts.{Agree}
 use Rattle.verifier.specs.Judging.{Judgement}
 use Rattle.promise.specs.Ends.{Judging}

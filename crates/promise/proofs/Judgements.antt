@@ -14,7 +14,7 @@ use Rattle.polynomial.specs.Columns.{columns_at}
 use Rattle.question.specs.declared.fit.Fit.{Fit}
 use Rattle.question.specs.declared.fit.Fit.TheVariants as fit
 use Rattle.question.specs.Question.{QuestionModel, Fits, Within, LawfulQuestion}
-use Rattle.writer.specs.declared.writer.TheConstants.{ENOUGH_PAPER}
+use Rattle.writer.specs.declared.limits.TheConstants.{ENOUGH_PAPER}
 use Rattle.writer.specs.Laws.{TenDigits}
 use Rattle.writer.proofs.Lengths.{text_fits}
 use Rattle.writer.proofs.Texts.{reads_back}

@@ -8,7 +8,7 @@ use Rattle.std.specs.List.{AllByRecursion}
 use Rattle.polynomial.specs.Columns.{columns_at}
 use Rattle.question.specs.declared.fit.Fit.TheVariants as fit
 use Rattle.question.specs.Question.{QuestionModel, LawfulQuestion}
-use Rattle.writer.specs.declared.writer.TheConstants.{ENOUGH_PAPER}
+use Rattle.writer.specs.declared.limits.TheConstants.{ENOUGH_PAPER}
 use Rattle.host.specs.Notes.{HostState}
 use Rattle.verifier.specs.Notes.{VerifierState}
 use Rattle.promise.specs.Runs.{Request, closed, moves, Shaped, after, granted_open}

@@ -3,7 +3,7 @@ use Rattle.std.proofs.Common.{ℕ, suc, ◌+◌, ◌-◌, ◌*◌, pos, refl, ar
 use lib.ListN.{length-replicate}
 use Rattle.field.specs.Field.{FieldModel, LawfulField}
 use Rattle.season.proofs.SquaresLaw.{squares_lawful}
-use Rattle.writer.specs.declared.writer.TheConstants.{ENOUGH_PAPER}
+use Rattle.writer.specs.declared.limits.TheConstants.{ENOUGH_PAPER}
 use Rattle.worked.specs.Orders.{OrdersMet}
 
 pub orders_met : {K : Type 0} {F : FieldModel K} → LawfulField F → OrdersMet F

@@ -13,7 +13,7 @@ use Rattle.question.specs.Question.{LawfulQuestion}
 use Rattle.season.proofs.CellsLaw.{range_lawful}
 use Rattle.season.proofs.SquaresLaw.{squares_lawful}
 use Rattle.expect.specs.Dues.{pass}
-use Rattle.writer.specs.declared.writer.TheConstants.{ENOUGH_PAPER}
+use Rattle.writer.specs.declared.limits.TheConstants.{ENOUGH_PAPER}
 use Rattle.verifier.specs.Notes.{verifier_opened, verifier_after}
 use Rattle.promise.specs.Runs.{Request, opening, noting, sealing, asking}
 use Rattle.promise.specs.Ends.{VerifierOpening, Judging}

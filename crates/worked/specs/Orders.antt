@@ -4,7 +4,7 @@ use Rattle.field.specs.Field.{FieldModel}
 use Rattle.board.specs.declared.moves.Move.{Move}
 use Rattle.board.specs.Grids.{grid_allowed}
 use Rattle.season.specs.Squares.{squares_question}
-use Rattle.writer.specs.declared.writer.TheConstants.{ENOUGH_PAPER}
+use Rattle.writer.specs.declared.limits.TheConstants.{ENOUGH_PAPER}
 use Rattle.play.specs.Trials.{InOrder}
 
 -- on every allowed grid, at every point and for all moves a trial of the squares is in order with h × v counts, v sums, a tray of D + 1 + v elements,

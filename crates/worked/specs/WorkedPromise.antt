@@ -7,7 +7,7 @@ use Rattle.polynomial.specs.Interpolation.{node}
 use Rattle.question.specs.Question.{LawfulQuestion}
 use Rattle.season.specs.Range.{range_question}
 use Rattle.season.specs.Squares.{squares_question}
-use Rattle.writer.specs.declared.writer.TheConstants.{ENOUGH_PAPER}
+use Rattle.writer.specs.declared.limits.TheConstants.{ENOUGH_PAPER}
 use Rattle.promise.specs.Claims.{Entry, FalseClaim, false_degrees}
 use Rattle.promise.specs.Sealed.{SealedVerifier, verifier_gives, Fooled, SealedHost, host_gives}
 use Rattle.worked.specs.Board.{residues, worked_moves, text_line}

@@ -7,6 +7,7 @@ use Rattle.polynomial.specs.Interpolation.{node}
 use Rattle.polynomial.proofs.Sums.{length-listed}
 use Rattle.protocol.specs.Asking.{terms_of, honest}
 use Rattle.protocol.proofs.Suits.{suit_granted}
+use Rattle.writer.specs.declared.limits.TheConstants.{MOST_VALUES}
 use Rattle.writer.specs.Papers.{write_answer, paper_after}
 use Rattle.writer.specs.Texts.{text}
 use Rattle.host.specs.Answering.{tray_filled}
@@ -54,7 +55,7 @@ returns g c =
     c.fill_values.ensures ∙ ap₂ (λ p k. tray_filled F k.rows k.columns p c.in_ok-cells.cells.now tray) same grid ∙ ap (λ xs. tray_filled F h v q xs tray) counts in
     let lines : asked.degree + 1 ≡ suc (q.degree h) = omega (arith, degree) in
     let values = ap₂ take lines filled ∙ take_honest F h v cells q tray paper fs in
-    let few : length (honest F h v q fs) ≤ 253 = omega (arith, length-listed 0 (suc (q.degree h)) (λ j. q.rule h v (node F j) (columns_at F h v fs (node F j))), asked.degree_most, degree) in
+    let few : length (honest F h v q fs) ≤ MOST_VALUES = omega (arith, length-listed 0 (suc (q.degree h)) (λ j. q.rule h v (node F j) (columns_at F h v fs (node F j))), asked.degree_most, degree) in
     let claim = q.tally h v fs in
     let fits : SFits w64 c.tally-claim.result = search rules in
     let claim-is : to_z w64 (of_z w64 c.tally-claim.result) ≡ claim = to_z-of_z w64 c.tally-claim.result fits ∙ c.tally-claim.ensures ∙ ap (q.tally h v) counts in
