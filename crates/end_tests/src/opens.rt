@@ -2,7 +2,7 @@
 use crate::cases::*;
 use board::Bank;
 use field::Field;
-use prime::Mod65537;
+use fields::Mod65537;
 use refusal::Refusal;
 use std::process::Abort;
 

@@ -12,7 +12,7 @@ use Rattle.polynomial.proofs.Nodes.{nodes_differ}
 use Rattle.question.specs.Question.{LawfulQuestion}
 use Rattle.season.proofs.CellsLaw.{range_lawful}
 use Rattle.season.proofs.SquaresLaw.{squares_lawful}
-use Rattle.expect.specs.Dues.{pass}
+use Rattle.text.specs.Items.{items_pass}
 use Rattle.writer.specs.declared.limits.TheConstants.{ENOUGH_PAPER}
 use Rattle.verifier.specs.Notes.{verifier_opened, verifier_after}
 use Rattle.promise.specs.Runs.{Request, opening, noting, sealing, asking}
@@ -54,11 +54,11 @@ run r e = record {
 }
 
 false13 : FalseClaim residues 2 8 worked_moves entry13
-unfolding pass
+unfolding items_pass
 false13 = false_claim residues 2 8 worked_moves entry13 refl
 
 false0 : FalseClaim residues 2 8 worked_moves entry0
-unfolding pass
+unfolding items_pass
 false0 = false_claim residues 2 8 worked_moves entry0 refl
 
 -- an accepted sheet that stands first in a list, or second
@@ -71,19 +71,19 @@ unfolding run
 fooled_second r e = record { judges = record { run = run r entry0; on_list = (inr (inl refl), tt) }; accepts = inl (pos 0, e, false0) }
 
 at_zero : (es : List (Entry (Residue 65537))) → Fooled residues 2 8 worked_moves (entry13 ∷ es) (node residues 0)
-unfolding run pass
+unfolding run items_pass
 at_zero es = fooled_first es (node residues 0) refl
 
 at_two : (es : List (Entry (Residue 65537))) → Fooled residues 2 8 worked_moves (entry13 ∷ es) (node residues 2)
-unfolding run pass
+unfolding run items_pass
 at_two es = fooled_first es (node residues 2) refl
 
 at_one : Fooled residues 2 8 worked_moves mixture (node residues 1)
-unfolding run pass
+unfolding run items_pass
 at_one = fooled_second (node residues 1) refl
 
 at_minus_one : Fooled residues 2 8 worked_moves mixture (node residues 65536)
-unfolding run pass
+unfolding run items_pass
 at_minus_one = fooled_second (node residues 65536) refl
 
 apart : (m n : ℕ) → m ≤ 65536 → n ≤ 65536 → (m ≡ n → ⊥) → node residues m ≡ node residues n → ⊥
@@ -93,7 +93,7 @@ squares : LawfulQuestion residues entry13.question
 squares = squares_lawful lawful_65537
 
 pub bound_reached : BoundReached
-unfolding pass
+unfolding items_pass
 bound_reached = record {
   lawful = squares;
   false_claim = false13;
@@ -129,7 +129,7 @@ nowhere_else r f =
         omega (arith, most, bound_reached.bound)
 
 degrees : false_degrees residues 2 8 worked_moves mixture ≡ 4
-unfolding pass
+unfolding items_pass
 degrees = refl
 
 mixed : (rs : List (Residue 65537)) → Distinct rs → AllByRecursion (Fooled residues 2 8 worked_moves mixture) rs → length rs ≤ 4

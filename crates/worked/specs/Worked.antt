@@ -8,7 +8,8 @@ use Rattle.board.specs.Grids.{grid_answer}
 use Rattle.board.specs.Ledger.{ledger, ledger_answers}
 use Rattle.field.specs.Field.{FieldModel}
 use Rattle.prime.specs.declared.residue.Residue.{Residue}
-use Rattle.extension.specs.declared.pair.Extension.{Extension}
+use Rattle.prime.specs.Residues.{value_of}
+use Rattle.extension.specs.declared.extension.Extension.{Extension}
 use Rattle.extension.specs.Pairs.{pair, quadratic}
 use Rattle.polynomial.specs.Columns.{columns_at}
 use Rattle.polynomial.specs.Interpolation.{node}
@@ -59,7 +60,7 @@ numbered (Err r) = Err (number_of r)
 
 -- the tray of four elements that the box at 5 leaves
 abbrev pub box_tray : List ℕ → List ℕ
-box_tray sheet = map (λ x. x.value) (judged residues 2 8 (node residues 5) (bank_at 5) (squares_question residues) sheet (replicate 4 residues.one)).tray
+box_tray sheet = map value_of (judged residues 2 8 (node residues 5) (bank_at 5) (squares_question residues) sheet (replicate 4 residues.one)).tray
 
 -- the honest sheet for the squares, but for its first, its second and its fourth line
 abbrev pub sheet_with : List ℕ → List ℕ → List ℕ → List ℕ
@@ -133,16 +134,16 @@ pub record MemoryCases : Type 0 where
   pub tray_of_11 : numbered (answered_in 11 9216).answer ≡ Ok (pos 14, 92)
   pub paper_of_9215 : numbered (answered_in 11 9215).answer ≡ Err 22
   -- the honest values, then the columns at 2, and the twelfth element as it was
-  pub host_tray : map (λ x. x.value) (answered_in 12 9216).tray ≡ 9 ∷ 5 ∷ 17 ∷ 65536 ∷ 65533 ∷ 0 ∷ 0 ∷ 0 ∷ 0 ∷ 0 ∷ 0 ∷ 1 ∷ []
+  pub host_tray : map value_of (answered_in 12 9216).tray ≡ 9 ∷ 5 ∷ 17 ∷ 65536 ∷ 65533 ∷ 0 ∷ 0 ∷ 0 ∷ 0 ∷ 0 ∷ 0 ∷ 1 ∷ []
 
 -- the cases, all of the definitions that the contracts of the calls cite
 pub record WorkedCases : Type 0 where
   pub weight : (ledger 2 8 256 worked_moves).weight ≡ 6
   pub number : (ledger 2 8 256 worked_moves).number ≡ 3
-  pub bank_at_five : map (λ x. x.value) (bank_at 5) ≡ 65530 ∷ 65527 ∷ 0 ∷ 0 ∷ 0 ∷ 0 ∷ 0 ∷ 0 ∷ 1 ∷ []
-  pub squares : map (λ x. x.value) (honest residues 2 8 (squares_question residues) worked_counts) ≡ 9 ∷ 5 ∷ 17 ∷ []
+  pub bank_at_five : map value_of (bank_at 5) ≡ 65530 ∷ 65527 ∷ 0 ∷ 0 ∷ 0 ∷ 0 ∷ 0 ∷ 0 ∷ 1 ∷ []
+  pub squares : map value_of (honest residues 2 8 (squares_question residues) worked_counts) ≡ 9 ∷ 5 ∷ 17 ∷ []
   pub squares_count : (squares_question residues).tally 2 8 worked_counts ≡ pos 14
-  pub range : map (λ x. x.value) (honest residues 2 8 (range_question residues 8 9) worked_counts) ≡ 0 ∷ 65536 ∷ 65527 ∷ []
+  pub range : map value_of (honest residues 2 8 (range_question residues 8 9) worked_counts) ≡ 0 ∷ 65536 ∷ 65527 ∷ []
   pub range_count : (range_question residues 8 9).tally 2 8 worked_counts ≡ negsuc 0
   pub true_at_five : box_answer 5 (sheet_of (codes "14") (codes "9") (codes "5") (codes "17")) ≡ Ok (pos 14)
   pub false_at_zero : box_answer 0 (sheet_of (codes "13") (codes "9") (codes "4") (codes "17")) ≡ Ok (pos 13)
