@@ -1,5 +1,5 @@
 -- True counts and false claims. Assumes nothing.
-use Rattle.std.specs.Prelude.{◌≡◌, ℕ, ◌+◌, Bool, false, cond, ◌&&◌, ◌≢◌, List, [], ◌∷◌, ℤ, ◌-ℤ◌, Ok, Err, Result, nat_lt, unsigned_abs}
+use Rattle.std.specs.Prelude.{◌≡◌, ℕ, ◌+◌, Bool, false, if◌then◌else◌, ◌&&◌, ◌≢◌, List, [], ◌∷◌, ℤ, ◌-ℤ◌, Ok, Err, Result, nat_lt, unsigned_abs}
 use Rattle.field.specs.Field.{FieldModel}
 use Rattle.board.specs.declared.moves.Move.{Move}
 use Rattle.refusal.specs.declared.refusal.Refusal.{Refusal}
@@ -38,4 +38,4 @@ module _ {K : Type 0} (F : FieldModel K) (h v : ℕ) (ms : List Move) where
   -- the degrees of the listed sheets that claim falsely, added
   abbrev pub false_degrees : List (Entry K) → ℕ
   false_degrees [] = 0
-  false_degrees (e ∷ es) = cond (claims_falsely e) (e.question.degree h) 0 + false_degrees es
+  false_degrees (e ∷ es) = (if claims_falsely e then e.question.degree h else 0) + false_degrees es

@@ -85,7 +85,8 @@ impl<F: Field> Listening<F> {
             ≡ verifier_note_standing F.Field.model self.old.standing (cells_of bank.old) m }
         ensures point { self.new.point ≡ self.old.point }
         ensures bank { Rewritten bank.old bank.new
-            (verifier_note_bank F.Field.model self.old.standing self.old.point (cells_of bank.old) m) }
+            (verifier_note_bank F.Field.model self.old.standing self.old.point
+            (cells_of bank.old) m) }
     {
         let grid = self.book.grid();
         if bank.len() < grid.columns as usize {

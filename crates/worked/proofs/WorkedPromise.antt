@@ -128,12 +128,12 @@ nowhere_else r f =
         let most = (promise lawful_65537).few_points 2 8 worked_moves (entry13 ∷ []) (squares, tt) rs ((n, (m, tt)), bound_reached.different) (f, bound_reached.fooled) in
         omega (arith, most, bound_reached.bound)
 
-degrees : false_degrees residues 2 8 worked_moves mixture ≡ 4
+degrees_added : false_degrees residues 2 8 worked_moves mixture ≡ 4
 unfolding items_pass
-degrees = refl
+degrees_added = refl
 
 mixed : (rs : List (Residue 65537)) → Distinct rs → AllByRecursion (Fooled residues 2 8 worked_moves mixture) rs → length rs ≤ 4
-mixed rs different fooled = let most = (promise lawful_65537).few_points 2 8 worked_moves mixture (squares, (range, tt)) rs different fooled in omega (arith, most, degrees)
+mixed rs different fooled = let most = (promise lawful_65537).few_points 2 8 worked_moves mixture (squares, (range, tt)) rs different fooled in omega (arith, most, degrees_added)
 
 honest : HonestAnswer residues 2 8 worked_moves entry13.question zero_tray zero_paper (host_gives residues 2 8 worked_moves host entry13.question zero_tray zero_paper)
 honest = (promise lawful_65537).honest_accepted 2 8 worked_moves host entry13.question squares refl zero_tray (omega arith) zero_paper (omega (arith, length-replicate {A = ℕ} ENOUGH_PAPER 0))
@@ -144,7 +144,7 @@ worked_promise = record {
   at_two = at_two [];
   nowhere_else = nowhere_else;
   second_false = false0;
-  degrees = degrees;
+  degrees_added = degrees_added;
   mixed = mixed;
   different = (
     (apart 0 2 (omega arith) (omega arith) (omega arith), (apart 0 1 (omega arith) (omega arith) (omega arith), (apart 0 65536 (omega arith) (omega arith) (omega arith), tt))),

@@ -67,7 +67,7 @@ pub record WorkedPromise : Type 0 where
   pub nowhere_else : (r : Residue 65537) → Fooled residues 2 8 worked_moves (entry13 ∷ []) r → (r ≡ node residues 0) ⊎ (r ≡ node residues 2)
   -- two false sheets together are accepted at no more points than the sum of their degrees, which is 4, and there are four such points
   pub second_false : FalseClaim residues 2 8 worked_moves entry0
-  pub degrees : false_degrees residues 2 8 worked_moves mixture ≡ 4
+  pub degrees_added : false_degrees residues 2 8 worked_moves mixture ≡ 4
   pub mixed : (rs : List (Residue 65537)) → Distinct rs → AllByRecursion (Fooled residues 2 8 worked_moves mixture) rs → length rs ≤ 4
   pub different : Distinct four_points
   pub fooled : AllByRecursion (Fooled residues 2 8 worked_moves mixture) four_points
