@@ -1,5 +1,5 @@
 -- What an end keeps of its grid and of the moves that it accepted, and what opening an end answers. Assumes nothing.
-use Rattle.std.specs.Prelude.{◌≡◌, ℕ, suc, ◌+◌, cond, List, Ok, Err, Result, unsigned_abs}
+use Rattle.std.specs.Prelude.{ℕ, suc, ◌+◌, cond, List, Err, Result, unsigned_abs}
 use Rattle.board.specs.declared.moves.Move.{Move}
 use Rattle.refusal.specs.declared.refusal.Refusal.{Refusal}
 use Rattle.refusal.specs.declared.refusal.Refusal.TheVariants.{GridOutside}

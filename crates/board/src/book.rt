@@ -1,6 +1,6 @@
 // The book of an end: its grid, and the weight and number of the moves that it accepted.
-ghost use Rattle.std.specs.Prelude.{◌≡◌, ◌≤◌};
-ghost use Rattle.board.specs.Answers.{kept_or};
+ghost use Rattle.std.specs.Prelude.{◌≡◌, ◌≤◌, IfOk};
+ghost use Rattle.board.specs.Answers.{kept_or, granted};
 ghost use Rattle.board.specs.Books.{new_standing, entered, book_answer};
 
 use crate::grid::Grid;
@@ -90,6 +90,20 @@ impl Book {
         self.weight += m.amount.unsigned_abs() as u32;
         self.number += 1;
         Ok(())
+    }
+
+    /// The book with a move entered, where no refusal applies: 1, 2, 3.
+    pub fn accepted(&self, limit: u32, m: Move) -> Result<Book, Refusal>
+        ensures answer { granted result ≡ book_answer limit self.now m }
+        ensures book { IfOk result (λ book. book ≡ entered self.now m) }
+    {
+        let mut book = Book {
+            grid: self.grid,
+            weight: self.weight,
+            number: self.number,
+        };
+        book.accept(limit, m)?;
+        Ok(book)
     }
 }
 

@@ -1,9 +1,8 @@
 // One game on a board of 2 rows and 8 columns: what both ends hold after it, over several fields and points.
 use crate::cases::*;
 use board::Bank;
-use extension::Extension;
 use field::Field;
-use prime::{Mersenne31, Mod65537};
+use fields::{Mersenne31, Mod65537, Mod65537x2};
 use std::process::Abort;
 use std::test::Fail;
 
@@ -65,7 +64,7 @@ fn at_boxes(rt: HostRuntime) -> Result<(), Fail> {
         (2147483640, 0),
         (2147483637, 0),
     )?;
-    let mut memory = [<Extension<Mod65537> as Field>::one(); 9];
-    let point = <Extension<Mod65537> as Field>::of_parts(5, 1);
+    let mut memory = [<Mod65537x2 as Field>::one(); 9];
+    let point = <Mod65537x2 as Field>::of_parts(5, 1);
     check_box(&rt, point, &mut memory, (65530, 65535), (65527, 65535))
 }

@@ -1,8 +1,18 @@
-// What the tests share: the two ends behind one trait, and moves with what is expected of them.
+// What the tests share: the two ends behind one trait, the moves on the worked board, and moves with what is expected of them.
 use board::{Bank, Book, Move};
-use refusal::Refusal;
 use field::Field;
+use refusal::Refusal;
 use std::process::Abort;
+
+// The moves on the worked board, of 2 rows and 8 columns.
+pub(crate) const MOVES: [Move; 3] = [
+    Move { cell: 0, amount: 3 },
+    Move { cell: 8, amount: 1 },
+    Move {
+        cell: 9,
+        amount: -2,
+    },
+];
 
 // An end that listens.
 pub(crate) trait End: Drop {

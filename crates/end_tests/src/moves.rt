@@ -1,9 +1,9 @@
 // Moves at both ends over Mod65537, whose limit of weights is 256, on boards of 2 rows and 8 columns.
 use crate::cases::*;
 use board::Bank;
-use refusal::Refusal;
 use field::Field;
-use prime::Mod65537;
+use fields::Mod65537;
+use refusal::Refusal;
 use std::process::Abort;
 use std::test::Fail;
 

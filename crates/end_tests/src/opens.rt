@@ -1,9 +1,9 @@
 // Opens: which grids and banks they take, and what they leave in the bank.
 use crate::cases::*;
 use board::Bank;
-use refusal::Refusal;
 use field::Field;
-use prime::Mod65537;
+use fields::Mod65537;
+use refusal::Refusal;
 use std::process::Abort;
 
 // Rows and columns, the cells of the bank, the answer, and how many cells are zero afterwards; all held 7.

@@ -10,6 +10,7 @@ use Rattle.field.proofs.Consequences.{limit_small}
 use Rattle.polynomial.proofs.Sums.{length-listed}
 use Rattle.question.specs.Question.{QuestionModel}
 use Rattle.protocol.specs.Asking.{suits, terms_of, honest}
+use Rattle.writer.specs.declared.limits.TheConstants.{MOST_VALUES, ENOUGH_PAPER}
 use Rattle.writer.specs.Papers.{write_answer, paper_after}
 use Rattle.writer.specs.Texts.{text}
 use Rattle.host.specs.Rows.{Ranged}
@@ -38,26 +39,26 @@ module _ {K : Type 0} (F : FieldModel K) (h v : ℕ) (bank : List ℤ) (q : Ques
   tested : Bool → Bool → Bool → Bool → Bool → Result (Unit {0}) Refusal
   tested s a b c d = cond s (Err BankShort) (cond a (suit_test b c d) (Err CountOutside))
 
-  ready : (s a b c d : Bool) → ltb (length bank) (h * v) ≡ s → leb (abs_sum fs) F.limit ≡ a → suits q h v ≡ b → ltb (length tray) (suc (q.degree h) + v) ≡ c → ltb (length paper) 9216 ≡ d → answer_ready F h v bank q tray paper ≡ tested s a b c d
+  ready : (s a b c d : Bool) → ltb (length bank) (h * v) ≡ s → leb (abs_sum fs) F.limit ≡ a → suits q h v ≡ b → ltb (length tray) (suc (q.degree h) + v) ≡ c → ltb (length paper) ENOUGH_PAPER ≡ d → answer_ready F h v bank q tray paper ≡ tested s a b c d
   unfolding tested suit_test tray_test paper_test
   ready s a b c d p₁ p₂ p₃ p₄ p₅ = λ i. tested (p₁ i) (p₂ i) (p₃ i) (p₄ i) (p₅ i)
 
   module _ (long : h * v ≤ length bank) (light : abs_sum fs ≤ F.limit) (suit : suits q h v ≡ true) (room : suc (q.degree h) + v ≤ length tray) where
-    pub granted : 9216 ≤ length paper → answered F h v bank q tray paper ≡ answered_by F h v (Ok tt) q fs tray paper
+    pub granted : ENOUGH_PAPER ≤ length paper → answered F h v bank q tray paper ≡ answered_by F h v (Ok tt) q fs tray paper
     unfolding tested suit_test tray_test paper_test
-    granted d = ap (λ a. answered_by F h v a q fs tray paper) (ready false true true false false (le-ltb (length bank) (h * v) long) (le-leb (abs_sum fs) F.limit light) suit (le-ltb (length tray) (suc (q.degree h) + v) room) (le-ltb (length paper) 9216 d))
+    granted d = ap (λ a. answered_by F h v a q fs tray paper) (ready false true true false false (le-ltb (length bank) (h * v) long) (le-leb (abs_sum fs) F.limit light) suit (le-ltb (length tray) (suc (q.degree h) + v) room) (le-ltb (length paper) ENOUGH_PAPER d))
 
   -- the values that stand first in a filled tray
   pub take_honest : (gs : List ℤ) → take (suc (q.degree h)) (tray_filled F h v q gs tray) ≡ honest F h v q gs
   take_honest gs = subst (λ n. take n (tray_filled F h v q gs tray) ≡ honest F h v q gs) (length-listed 0 (suc (q.degree h)) _) (take-append_seam (honest F h v q gs) _)
 
-  -- the sheet is written: there are 253 values at most, and paper enough
-  pub write_granted : (c : ℤ) (vs : List K) → length vs ≤ 253 → 9216 ≤ length paper → write_answer F (terms_of q h v) c vs paper ≡ Ok (length (text F (terms_of q h v) c vs))
-  write_granted c vs few enough = ap₂ (λ a b. cond (a && b) (Ok (length (text F (terms_of q h v) c vs))) (Err PaperShort)) (le-leb (length vs) 253 few) (le-leb 9216 (length paper) enough)
+  -- the sheet is written: there are as many values as a sheet may have, and paper enough
+  pub write_granted : (c : ℤ) (vs : List K) → length vs ≤ MOST_VALUES → ENOUGH_PAPER ≤ length paper → write_answer F (terms_of q h v) c vs paper ≡ Ok (length (text F (terms_of q h v) c vs))
+  write_granted c vs few enough = ap₂ (λ a b. cond (a && b) (Ok (length (text F (terms_of q h v) c vs))) (Err PaperShort)) (le-leb (length vs) MOST_VALUES few) (le-leb ENOUGH_PAPER (length paper) enough)
 
-  pub paper_granted : (c : ℤ) (vs : List K) → length vs ≤ 253 → 9216 ≤ length paper → paper_after F (terms_of q h v) c vs paper ≡ text F (terms_of q h v) c vs ++ drop (length (text F (terms_of q h v) c vs)) paper
+  pub paper_granted : (c : ℤ) (vs : List K) → length vs ≤ MOST_VALUES → ENOUGH_PAPER ≤ length paper → paper_after F (terms_of q h v) c vs paper ≡ text F (terms_of q h v) c vs ++ drop (length (text F (terms_of q h v) c vs)) paper
   paper_granted c vs few enough =
-      ap₂ (λ a b. cond (a && b) (text F (terms_of q h v) c vs ++ drop (length (text F (terms_of q h v) c vs)) paper) paper) (le-leb (length vs) 253 few) (le-leb 9216 (length paper) enough)
+      ap₂ (λ a b. cond (a && b) (text F (terms_of q h v) c vs ++ drop (length (text F (terms_of q h v) c vs)) paper) paper) (le-leb (length vs) MOST_VALUES few) (le-leb ENOUGH_PAPER (length paper) enough)
 
 -- counts that come to the limit at most have images
 pub light_ranged : {K : Type 0} {F : FieldModel K} (L : LawfulField F) (gs : List ℤ) → abs_sum gs ≤ F.limit → Ranged gs

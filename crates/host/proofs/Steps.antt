@@ -4,8 +4,8 @@ use Rattle.field.specs.Field.{FieldModel, LawfulField}
 use Rattle.polynomial.specs.Interpolation.{node, chi}
 use Rattle.polynomial.specs.Lists.{listed}
 use Rattle.polynomial.specs.Sums.{sum_from}
-use Rattle.polynomial.specs.Columns.{count_at, columns, row}
-use Rattle.polynomial.proofs.Columns.{extension}
+use Rattle.polynomial.specs.Columns.{count_image, columns_at, row_images}
+use Rattle.polynomial.proofs.Columns.{columns_extend}
 use Rattle.polynomial.proofs.Sums.{listed_cong}
 use Rattle.board.specs.Banks.{filled}
 use Rattle.host.specs.Rows.{added_row}
@@ -55,10 +55,10 @@ module _ {K : Type 0} (F : FieldModel K) (b : K) where
 
 -- the columns from the row x on
 abbrev pub columns_from : {K : Type 0} → FieldModel K → ℕ → ℕ → List ℤ → K → ℕ → List K
-columns_from F h v fs X x = listed 0 v (λ y. sum_from F x (h - x) (λ k. F.mul (count_at F v fs y k) (chi F h k X)))
+columns_from F h v fs X x = listed 0 v (λ y. sum_from F x (h - x) (λ k. F.mul (count_image F v fs y k) (chi F h k X)))
 
 pub columns_none : {K : Type 0} (F : FieldModel K) (h v : ℕ) (fs : List ℤ) (X : K) → replicate v F.zero ≡ columns_from F h v fs X h
-columns_none F h v fs X = let z : h - h ≡ 0 = omega arith in go 0 v ∙ ap (λ n. listed 0 v (λ y. sum_from F h n (λ k. F.mul (count_at F v fs y k) (chi F h k X)))) (sym z)
+columns_none F h v fs X = let z : h - h ≡ 0 = omega arith in go 0 v ∙ ap (λ n. listed 0 v (λ y. sum_from F h n (λ k. F.mul (count_image F v fs y k) (chi F h k X)))) (sym z)
   where
     go : (j n : ℕ) → replicate n F.zero ≡ listed j n (λ y. F.zero)
     go j zero = refl
@@ -70,12 +70,12 @@ columns_more F h v fs X x row b l e =
     let s : h - x ≡ suc (h - suc x) = omega arith in
     added_listed F (chi F h x X) 0 v _ row l
     ∙ listed_cong 0 v _ _ (λ y p q. let z : y - 0 ≡ y = omega arith in
-    ap (λ n. F.add (F.mul (F.image n) (chi F h x X)) (sum_from F (suc x) (h - suc x) (λ k. F.mul (count_at F v fs y k) (chi F h k X)))) (ap (λ k. get_or row k (pos 0)) z ∙ e y (omega arith))
-    ∙ ap (λ n. sum_from F x n (λ k. F.mul (count_at F v fs y k) (chi F h k X))) (sym s))
+    ap (λ n. F.add (F.mul (F.image n) (chi F h x X)) (sum_from F (suc x) (h - suc x) (λ k. F.mul (count_image F v fs y k) (chi F h k X)))) (ap (λ k. get_or row k (pos 0)) z ∙ e y (omega arith))
+    ∙ ap (λ n. sum_from F x n (λ k. F.mul (count_image F v fs y k) (chi F h k X))) (sym s))
 
 -- at a row the columns are the images of its counts
-pub columns_at_row : {K : Type 0} {F : FieldModel K} (L : LawfulField F) (h v : ℕ) (fs : List ℤ) (x : ℕ) → h ≤ 65537 → x < h → row F v fs x ≡ columns F h v fs (node F x)
-columns_at_row L h v fs x most inside = listed_cong 0 v _ _ (λ y p q. sym ((extension L h v fs y most).at_rows x inside))
+pub columns_at_row : {K : Type 0} {F : FieldModel K} (L : LawfulField F) (h v : ℕ) (fs : List ℤ) (x : ℕ) → h ≤ 65537 → x < h → row_images F v fs x ≡ columns_at F h v fs (node F x)
+columns_at_row L h v fs x most inside = listed_cong 0 v _ _ (λ y p q. sym ((columns_extend L h v fs y most).at_rows x inside))
 
 pub row_at : (fs : List ℤ) (a v y : ℕ) → y < v → get_or (take v (drop a fs)) y (pos 0) ≡ get_or fs (a + y) (pos 0)
 row_at fs a v y h = get_or-take v (drop a fs) y (pos 0) h ∙ get_or-drop a fs y (pos 0)

@@ -1,5 +1,4 @@
 pub mod Calls
 pub mod Notes
-pub mod Granted
 pub mod Rows
 pub mod Answering

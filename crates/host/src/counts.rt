@@ -18,7 +18,8 @@ impl Counts<'_> {
     // The counts of row x.
     pub(crate) fn row(&self, x: u32) -> &[i32]
         requires { x < self.now.grid.rows }
-        ensures row { result.now ≡ take self.now.grid.columns (drop (x * self.now.grid.columns) self.now.cells.now) }
+        ensures row { result.now
+            ≡ take self.now.grid.columns (drop (x * self.now.grid.columns) self.now.cells.now) }
         ensures length { length result.now ≡ self.now.grid.columns }
         ensures ranged { Ranged result.now }
     {

@@ -1,8 +1,6 @@
 // The values of a question's polynomial.
-ghost use Rattle.std.specs.Prelude.{◌≡◌, suc, ◌+◌, ◌≤◌, ◌++◌, length, drop};
-ghost use Rattle.polynomial.specs.Columns.{columns};
-ghost use Rattle.polynomial.specs.Interpolation.{node};
-ghost use Rattle.protocol.specs.Asking.{honest};
+ghost use Rattle.std.specs.Prelude.{◌≡◌, suc, ◌+◌, ◌≤◌, length};
+ghost use Rattle.host.specs.Answering.{tray_filled};
 
 use crate::columns::fill_columns_at;
 use crate::counts::Counts;
@@ -19,7 +17,9 @@ pub(crate) fn fill_values<F: Field, Q: Question<F>>(
 )
     requires grid { counts.now.grid ≡ asked.now.grid }
     requires room { suc asked.now.degree + asked.now.grid.columns ≤ length tray.old }
-    ensures { tray.new ≡ honest F.Field.model asked.now.grid.rows asked.now.grid.columns (Q.Question.meaning asked.now.question.now) counts.now.cells.now ++ (columns F.Field.model asked.now.grid.rows asked.now.grid.columns counts.now.cells.now (node F.Field.model asked.now.degree) ++ drop (suc asked.now.degree + asked.now.grid.columns) tray.old) }
+    ensures { tray.new
+        ≡ tray_filled F.Field.model asked.now.grid.rows asked.now.grid.columns
+        (Q.Question.meaning asked.now.question.now) counts.now.cells.now tray.old }
 {
     let (values, rest) = tray.split_at_mut(asked.degree as usize + 1);
     let columns = &mut rest[..asked.grid.columns as usize];

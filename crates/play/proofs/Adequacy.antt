@@ -1,25 +1,12 @@
--- Trials in order exist, and the runs of the promise are the ends of a trial. Assumes nothing but the laws of the field.
-use Rattle.std.proofs.Common.{◌≡◌, ℕ, suc, ◌+◌, ◌-◌, ◌*◌, List, [], ◌∷◌, ◌++◌, map, pos, refl, arith, ap, ◌∙◌}
-use lib.ListN.{length-replicate}
+-- The runs of the promise are the ends of a trial. Assumes nothing.
+use Rattle.std.proofs.Common.{◌≡◌, List, [], ◌∷◌, ◌++◌, map, refl, ap, ◌∙◌}
 use Rattle.board.specs.declared.moves.Move.{Move}
-use Rattle.field.specs.Field.{FieldModel, LawfulField}
-use Rattle.question.proofs.SquaresLaw.{squares_lawful}
+use Rattle.field.specs.Field.{FieldModel}
 use Rattle.host.specs.Notes.{HostState, host_noted, host_after}
 use Rattle.verifier.specs.Notes.{VerifierState, verifier_noted, verifier_after}
 use Rattle.promise.specs.Runs.{begun, noting, sealing, asking, listening, sealed, after}
 use Rattle.promise.specs.Ends.{Judging, verifier_end, Answering, host_end}
-use Rattle.play.specs.Adequacy.{OrdersMet, RunsAreCalls}
-
-pub orders_met : {K : Type 0} {F : FieldModel K} → LawfulField F → OrdersMet F
-orders_met {K} {F} L h v allowed r ms = record {
-  allowed = allowed;
-  lawful = squares_lawful L;
-  fitting = refl;
-  counts_long = omega (arith, length-replicate (h * v) (pos 0));
-  sums_long = omega (arith, length-replicate v F.zero);
-  tray_long = omega (arith, length-replicate (suc (2 * (h - 1)) + v) F.zero);
-  paper_long = omega (arith, length-replicate {A = ℕ} 9216 0);
-}
+use Rattle.play.specs.Adequacy.{RunsAreCalls}
 
 module _ {K : Type 0} (F : FieldModel K) where
   -- what a sealed end is asked changes nothing

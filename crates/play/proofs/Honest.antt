@@ -8,11 +8,12 @@ use Rattle.board.specs.Books.{open_answer}
 use Rattle.board.specs.Grids.{grid_allowed}
 use Rattle.field.specs.Field.{FieldModel}
 use Rattle.board.specs.Ledger.{ledger}
-use Rattle.polynomial.specs.Columns.{columns}
+use Rattle.polynomial.specs.Columns.{columns_at}
 use Rattle.polynomial.specs.Interpolation.{node}
 use Rattle.protocol.specs.Asking.{honest}
 use Rattle.polynomial.proofs.Sums.{length-listed}
 use Rattle.question.specs.Question.{QuestionModel}
+use Rattle.host.specs.Answering.{answered_at}
 use Rattle.host.specs.Calls.{host_open_answer}
 use Rattle.verifier.specs.Calls.{verifier_open_answer}
 use Rattle.promise.specs.Claims.{true_count}
@@ -20,10 +21,12 @@ use Rattle.promise.specs.Ends.{HostOpening, host_end, VerifierOpening, verifier_
 use Rattle.promise.specs.Promise.{Promised}
 use Rattle.promise.specs.Runs.{noting, sealing, begun, after}
 use Rattle.promise.specs.Sealed.{SealedHost, SealedVerifier}
-use Rattle.promise.specs.Shapes.{whole, complete}
+use Rattle.promise.specs.Shapes.{complete_requests, complete}
 use Rattle.promise.proofs.Shapes.{runs_of}
 use Rattle.play.proofs.Adequacy.{host_sealed, verifier_sealed}
-use Rattle.play.specs.Trials.{host_given, judged_sheet, told_host, told_box, box_trial, host_trial, trial, InOrder}
+use Rattle.play.specs.Contents.{Contents}
+use Rattle.play.specs.States.{box_of}
+use Rattle.play.specs.Trials.{judged_answer, told_host, told_box, box_trial, host_trial, trial, InOrder}
 
 -- an open on an allowed grid with cells enough is granted
 open_granted : {A : Type 0} (h v n : ℕ) (bank : List A) → grid_allowed h v ≡ true → n ≤ length bank → open_answer h v n bank ≡ Ok tt
@@ -38,7 +41,7 @@ module _ {K : Type 0} (F : FieldModel K) where
         let o : HostOpening = record { rows = h; columns = v; bank = counts } in
         let done = (runs_of (host_end F)).completed [] tt o granted ms [] in
         record {
-          requests = whole [] o ms [];
+          requests = complete_requests [] o ms [];
           shaped = (runs_of (host_end F)).of_form _ (complete [] tt o granted ms []);
           opened = o;
           grants = done.grants;
@@ -55,7 +58,7 @@ module _ {K : Type 0} (F : FieldModel K) where
         let o : VerifierOpening K = record { rows = h; columns = v; bank = sums; point = r } in
         let done = (runs_of (verifier_end F)).completed [] tt o granted ms [] in
         record {
-          requests = whole [] o ms [];
+          requests = complete_requests [] o ms [];
           shaped = (runs_of (verifier_end F)).of_form _ (complete [] tt o granted ms []);
           opened = o;
           grants = done.grants;
@@ -67,19 +70,21 @@ module _ {K : Type 0} (F : FieldModel K) where
           ends = ap (λ a. after (verifier_end F) (begun (verifier_end F) a o) (map noting ms ++ (sealing ∷ []))) granted ∙ verifier_sealed F ((verifier_end F).begin o) ms [];
         }
 
-    pub honest_trial : Promised F → (counts : List ℤ) (sums tray : List K) (paper : List ℕ) → InOrder F h v r ms q counts sums tray paper → (trial F h v r ms q counts sums tray paper).answer ≡ Ok (true_count F h v ms q)
+    pub honest_trial : Promised F → (m : Contents K) → InOrder F h v r ms q m → (trial F h v r ms q m).answer ≡ Ok (true_count F h v ms q)
     unfolding host_run verifier_run
-    honest_trial promised counts sums tray paper order =
-        let host-granted = open_granted h v (h * v) counts order.allowed order.counts_long in
-        let verifier-granted = open_granted h v v sums order.allowed order.sums_long in
-        let given = host_given F (told_host F h v r ms q counts) q tray paper in
-        let answer = promised.honest_accepted h v ms (host_run counts host-granted) q order.lawful order.fitting tray order.tray_long paper order.paper_long in
+    honest_trial promised m order =
+        let host-granted = open_granted h v (h * v) m.counts order.allowed order.counts_long in
+        let verifier-granted = open_granted h v v m.sums order.allowed order.sums_long in
+        let host = told_host F h v r ms q m.counts in
+        let box = told_box F h v r ms q m.sums in
+        let given = answered_at F host.standing host.bank q m.tray m.paper in
+        let answer = promised.honest_accepted h v ms (host_run m.counts host-granted) q order.lawful order.fitting m.tray order.tray_long m.paper order.paper_long in
         let fs = (ledger h v F.limit ms).counts in
-        let rest = columns F h v fs (node F (q.degree h)) ++ drop (suc (q.degree h) + v) tray in
+        let rest = columns_at F h v fs (node F (q.degree h)) ++ drop (suc (q.degree h) + v) m.tray in
         let values : given.tray ≡ honest F h v q fs ++ rest = answer.values in
         let room : suc (q.degree h) ≤ length given.tray =
-        omega (arith, ap length values, length-append (honest F h v q fs) rest, length-listed 0 (suc (q.degree h)) (λ j. q.rule h v (node F j) (columns F h v fs (node F j)))) in
-        ap (λ a. (host_trial F h v r ms q a counts sums tray paper).answer) host-granted
-        ∙ ap (λ a. (box_trial F h v r ms q a counts sums tray paper).answer) verifier-granted
-        ∙ ap (λ a. (judged_sheet F (told_box F h v r ms q sums) q a given.tray given.paper).answer) answer.answer
-        ∙ answer.accepted r (verifier_run sums verifier-granted) given.tray room
+        omega (arith, ap length values, length-append (honest F h v q fs) rest, length-listed 0 (suc (q.degree h)) (λ j. q.rule h v (node F j) (columns_at F h v fs (node F j)))) in
+        ap (λ a. (host_trial F h v r ms q a m).answer) host-granted
+        ∙ ap (λ a. (box_trial F h v r ms q a m).answer) verifier-granted
+        ∙ ap (λ a. (judged_answer F (box_of box) q (record m { counts = host.bank; sums = box.bank }) a given.tray given.paper).answer) answer.answer
+        ∙ answer.accepted r (verifier_run m.sums verifier-granted) given.tray room

@@ -1,5 +1,6 @@
 // Telling moves to an end, one after the other.
 ghost use Rattle.std.specs.Prelude.{◌≡◌};
+ghost use Rattle.board.specs.Banks.{cells_of};
 ghost use Rattle.host.specs.Notes.{host_after};
 ghost use Rattle.verifier.specs.Notes.{verifier_after};
 ghost use Rattle.play.specs.States.{host_state, verifier_state};
@@ -7,15 +8,14 @@ ghost use Rattle.play.specs.States.{host_state, verifier_state};
 use board::{Bank, Move};
 use field::Field;
 
-// Tells a host moves, refused ones too. The loop for a box is a twin. One loop for both would need a trait with a type of cells, the state of an end
-// and what a note makes of it, and an impl for each end: no plainer than two loops of one line. The lender's clause stands by itself here and in a
-// trial, as the cells are part of the state.
+// Tells a host moves, refused ones too.
 pub(crate) fn tell_host<F: Field>(
     host: &mut host::Listening<F>,
     bank: &mut Bank<'_, i32>,
     moves: &[Move],
 )
-    ensures state { host_state host.new bank.new.cells.now ≡ host_after F.Field.model.limit (host_state host.old bank.old.cells.now) moves.now }
+    ensures state { host_state host.new (cells_of bank.new)
+        ≡ host_after F.Field.model.limit (host_state host.old (cells_of bank.old)) moves.now }
     ensures lender { bank.new.cells.ghost_name ≡ bank.old.cells.ghost_name }
 {
     for m in moves {
@@ -29,7 +29,8 @@ pub(crate) fn tell_verifier<F: Field>(
     bank: &mut Bank<'_, F>,
     moves: &[Move],
 )
-    ensures state { verifier_state verifier.new bank.new.cells.now ≡ verifier_after F.Field.model (verifier_state verifier.old bank.old.cells.now) moves.now }
+    ensures state { verifier_state verifier.new (cells_of bank.new)
+        ≡ verifier_after F.Field.model (verifier_state verifier.old (cells_of bank.old)) moves.now }
     ensures lender { bank.new.cells.ghost_name ≡ bank.old.cells.ghost_name }
 {
     for m in moves {

@@ -2,17 +2,19 @@
 ghost use Rattle.std.specs.Prelude.{◌≡◌, Ok};
 ghost use Rattle.promise.specs.Claims.{true_count};
 ghost use Rattle.promise.specs.Promise.{Promised};
-ghost use Rattle.play.specs.States.{sealed_host, sealed_verifier};
+ghost use Rattle.board.specs.Banks.{cells_of};
+ghost use Rattle.play.specs.Memories.{contents_of, SameLenders};
 ghost use Rattle.play.specs.Trials.{exchanged, trial, InOrder};
 
+use crate::memory::Memory;
 use crate::telling::{tell_host, tell_verifier};
 use board::{Bank, Move};
-use refusal::Refusal;
 use field::Field;
 use question::Question;
+use refusal::Refusal;
 
-// A sealed host answers a question, and a sealed box judges the sheet: the count that the box accepts, or the first refusal.
-pub fn exchange<F: Field, Q: Question<F>>(
+// A sealed host answers a question, and a sealed box judges the sheet.
+fn judge_answer<F: Field, Q: Question<F>>(
     host: &host::Sealed<F>,
     counts: &Bank<'_, i32>,
     verifier: &verifier::Sealed<F>,
@@ -21,43 +23,96 @@ pub fn exchange<F: Field, Q: Question<F>>(
     tray: &mut [F],
     paper: &mut [u8],
 ) -> Result<i64, Refusal>
-    ensures { record { answer = result; tray = tray.new; paper = paper.new } ≡ exchanged F.Field.model (sealed_host host.now counts.now.cells.now) (sealed_verifier verifier.now sums.now.cells.now) (Q.Question.meaning question.now) tray.old paper.old }
+    ensures { record {
+      answer = result;
+      memory = record {
+        counts = cells_of counts.now;
+        sums = cells_of sums.now;
+        tray = tray.new;
+        paper = paper.new;
+      };
+    }
+        ≡ exchanged F.Field.model host.now verifier.now (Q.Question.meaning question.now)
+        (record {
+          counts = cells_of counts.now;
+          sums = cells_of sums.now;
+          tray = tray.old;
+          paper = paper.old;
+        }) }
 {
     let (_, length) = host.answer(counts, question, tray, paper)?;
     verifier.judge(sums, question, &paper[..length], tray)
 }
 
-// Opens a host and a box on the same grid, tells both the moves, seals them, has the host answer the question and the box judge the sheet: the count
-// that the box accepts, or the first refusal. The contract is the whole promise that the two ends make over every run, what this trial answers and
-// leaves in the memory that it was lent (banks, tray and paper apart, by a rule of the project), and that a trial in order ends with the true count.
+/// A sealed host answers a question, and a sealed box judges the sheet: the count that the box accepts, or the first refusal, the host's
+/// before the box's. Both banks are as they were.
+pub fn exchange<F: Field, Q: Question<F>>(
+    host: &host::Sealed<F>,
+    verifier: &verifier::Sealed<F>,
+    question: &Q,
+    memory: &mut Memory<'_, F>,
+) -> Result<i64, Refusal>
+    ensures exchanged { record { answer = result; memory = contents_of memory.new }
+        ≡ exchanged F.Field.model host.now verifier.now (Q.Question.meaning question.now)
+        (contents_of memory.old) }
+    ensures lenders { SameLenders memory.old memory.new }
+{
+    let counts = Bank::new(memory.counts);
+    let sums = Bank::new(memory.sums);
+    judge_answer(
+        host,
+        &counts,
+        verifier,
+        &sums,
+        question,
+        memory.tray,
+        memory.paper,
+    )
+}
+
+// A trial, of which the contract says just what it answers and leaves.
+fn open_and_exchange<F: Field, Q: Question<F>>(
+    rows: u64,
+    columns: u64,
+    point: F,
+    moves: &[Move],
+    question: &Q,
+    memory: &mut Memory<'_, F>,
+) -> Result<i64, Refusal>
+    ensures trial { record { answer = result; memory = contents_of memory.new }
+        ≡ trial F.Field.model rows columns point moves.now (Q.Question.meaning question.now)
+        (contents_of memory.old) }
+    ensures lenders { SameLenders memory.old memory.new }
+{
+    let mut counts = Bank::new(memory.counts);
+    let mut sums = Bank::new(memory.sums);
+    let mut host = host::Listening::<F>::open(rows, columns, &mut counts)?;
+    let mut verifier = verifier::Listening::open(rows, columns, point, &mut sums)?;
+    tell_host(&mut host, &mut counts, moves);
+    tell_verifier(&mut verifier, &mut sums, moves);
+    exchange(&host.seal(), &verifier.seal(), question, memory)
+}
+
+/// Opens a host and a box on the same grid, tells both the moves, seals them, has the host answer the question and the box judge the
+/// sheet: the count that the box accepts, or the first refusal. The contract is the whole promise that the two ends make over every run,
+/// what this trial answers and leaves in the memory that it was lent, and that a trial in order ends with the true count.
 pub fn play_trial<F: Field, Q: Question<F>>(
     rows: u64,
     columns: u64,
     point: F,
     moves: &[Move],
     question: &Q,
-    counts: &mut Bank<'_, i32>,
-    sums: &mut Bank<'_, F>,
-    tray: &mut [F],
-    paper: &mut [u8],
+    memory: &mut Memory<'_, F>,
 ) -> Result<i64, Refusal>
     ensures promise { Promised F.Field.model }
-    ensures trial { record { answer = result; counts = counts.new.cells.now; sums = sums.new.cells.now; tray = tray.new; paper = paper.new } ≡ trial F.Field.model rows columns point moves.now (Q.Question.meaning question.now) counts.old.cells.now sums.old.cells.now tray.old paper.old }
-    ensures honest { InOrder F.Field.model rows columns point moves.now (Q.Question.meaning question.now) counts.old.cells.now sums.old.cells.now tray.old paper.old → result ≡ Ok (true_count F.Field.model rows columns moves.now (Q.Question.meaning question.now)) }
-    ensures counts_lender { counts.new.cells.ghost_name ≡ counts.old.cells.ghost_name }
-    ensures sums_lender { sums.new.cells.ghost_name ≡ sums.old.cells.ghost_name }
+    ensures trial { record { answer = result; memory = contents_of memory.new }
+        ≡ trial F.Field.model rows columns point moves.now (Q.Question.meaning question.now)
+        (contents_of memory.old) }
+    ensures honest { InOrder F.Field.model rows columns point moves.now
+        (Q.Question.meaning question.now) (contents_of memory.old)
+        → result
+        ≡ Ok (true_count F.Field.model rows columns moves.now (Q.Question.meaning question.now)) }
+    ensures lenders { SameLenders memory.old memory.new }
 {
-    let mut host = host::Listening::<F>::open(rows, columns, counts)?;
-    let mut verifier = verifier::Listening::open(rows, columns, point, sums)?;
-    tell_host(&mut host, counts, moves);
-    tell_verifier(&mut verifier, sums, moves);
-    exchange(
-        &host.seal(),
-        counts,
-        &verifier.seal(),
-        sums,
-        question,
-        tray,
-        paper,
-    )
+    open_and_exchange(rows, columns, point, moves, question, memory)
 }

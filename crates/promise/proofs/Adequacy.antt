@@ -7,7 +7,7 @@ use Rattle.refusal.specs.declared.refusal.Refusal.TheVariants.{GridOutside, Bank
 use Rattle.board.specs.Books.{open_answer}
 use Rattle.board.specs.Grids.{grid_allowed}
 use Rattle.promise.specs.Ends.{VerifierOpening, verifier_end, HostOpening, host_end}
-use Rattle.promise.specs.Shapes.{whole, complete}
+use Rattle.promise.specs.Shapes.{complete_requests, complete}
 use Rattle.promise.specs.Sealed.{SealedVerifier, SealedHost}
 use Rattle.promise.specs.Adequacy.{EveryListRuns, SealedRuns, GrantedAnywhere}
 use Rattle.promise.proofs.Shapes.{runs_of}
@@ -26,8 +26,8 @@ module _ {K : Type 0} (F : FieldModel K) where
       let e = opens h v v F.zero g in
       let c = (runs_of (verifier_end F)).completed [] tt o e ms [] in
       record {
-        requests = whole [] o ms [];
-        shaped = (runs_of (verifier_end F)).of_form (whole [] o ms []) (complete [] tt o e ms []);
+        requests = complete_requests [] o ms [];
+        shaped = (runs_of (verifier_end F)).of_form (complete_requests [] o ms []) (complete [] tt o e ms []);
         opened = o;
         grants = c.grants;
         rows = refl;
@@ -44,8 +44,8 @@ module _ {K : Type 0} (F : FieldModel K) where
       let e = opens h v (h * v) (pos 0) g in
       let c = (runs_of (host_end F)).completed [] tt o e ms [] in
       record {
-        requests = whole [] o ms [];
-        shaped = (runs_of (host_end F)).of_form (whole [] o ms []) (complete [] tt o e ms []);
+        requests = complete_requests [] o ms [];
+        shaped = (runs_of (host_end F)).of_form (complete_requests [] o ms []) (complete [] tt o e ms []);
         opened = o;
         grants = c.grants;
         rows = refl;

@@ -7,7 +7,7 @@ use Rattle.board.specs.Grids.{grid_allowed}
 use Rattle.board.specs.Ledger.{ledger}
 use Rattle.board.proofs.Ledgers.{kept}
 use Rattle.std.specs.List.{AllByRecursion}
-use Rattle.polynomial.specs.Columns.{columns}
+use Rattle.polynomial.specs.Columns.{columns_at}
 use Rattle.question.specs.Question.{Within}
 use Rattle.verifier.specs.Notes.{VerifierState}
 use Rattle.verifier.specs.Judging.{Judgement, judged}
@@ -32,7 +32,7 @@ module _ {K : Type 0} {F : FieldModel K} (L : LawfulField F) where
     pub bank : List K
     pub allowed : grid_allowed h v ≡ true
     pub long : v ≤ length bank
-    pub right : take v bank ≡ columns F h v (counts_of F h v ms) r
+    pub right : take v bank ≡ columns_at F h v (counts_of F h v ms) r
     pub judges : (j : Judging K) → (verifier_end F).reply x j ≡ judged F h v r bank j.question j.sheet j.tray
 
   holding : (o : VerifierOpening K) (ms : List Move) (x : VerifierState K) → VerifierStands F o (ledger o.rows o.columns F.limit ms) x → Holding o.rows o.columns ms o.point x
@@ -72,7 +72,7 @@ module _ {K : Type 0} {F : FieldModel K} (L : LawfulField F) where
 
   -- what a sheet that was accepted passed, in terms of the counts
   pub accepted_at : (h v : ℕ) (ms : List Move) (r : K) (g : Judging K × Judgement K) (c : ℤ) → JudgedBy h v ms r g → g.1.answer ≡ Ok c
-      → Passed L h v r (columns F h v (counts_of F h v ms) r) g.0.question g.0.sheet c
+      → Passed L h v r (columns_at F h v (counts_of F h v ms) r) g.0.question g.0.sheet c
   accepted_at h v ms r g c z e =
       subst (λ cs. Passed L h v r cs g.0.question g.0.sheet c) z.holds.right
       (accepted_passed L h v r z.holds.bank g.0.question g.0.sheet g.0.tray c (sym (ap (λ w. w.answer) (z.is ∙ z.holds.judges g.0)) ∙ e))

@@ -7,11 +7,11 @@ use Rattle.refusal.specs.declared.refusal.Refusal.{Refusal}
 use Rattle.board.specs.Grids.{grid_allowed}
 use Rattle.polynomial.specs.Lists.{AnyByRecursion, Distinct}
 use Rattle.std.specs.List.{AllByRecursion}
-use Rattle.polynomial.specs.Columns.{columns}
+use Rattle.polynomial.specs.Columns.{columns_at}
 use Rattle.polynomial.proofs.Counts.{Sorted, sort, split_length, distinct_first, distinct_second}
 use Rattle.question.specs.Question.{Fits, LawfulQuestion}
 use Rattle.protocol.specs.Asking.{is_fit, terms_of}
-use Rattle.layout.proofs.Sheets.{reads_sheets}
+use Rattle.sheet.proofs.Sheets.{reads_sheets}
 use Rattle.promise.specs.Counts.{Agree}
 use Rattle.verifier.specs.Judging.{Judgement}
 use Rattle.promise.specs.Ends.{Judging}
@@ -43,7 +43,7 @@ module _ {K : Type 0} {F : FieldModel K} (L : LawfulField F) (h v : ℕ) (ms : L
   record AcceptedAt (r : K) (e : Entry K) : Type 0 where
     allowed : grid_allowed h v ≡ true
     claim : ℤ
-    passed : Passed L h v r (columns F h v (counts_of F h v ms) r) e.question e.sheet claim
+    passed : Passed L h v r (columns_at F h v (counts_of F h v ms) r) e.question e.sheet claim
 
   -- one that claims falsely besides
   abbrev FalselyAt : K → Entry K → Type 0
@@ -68,8 +68,8 @@ module _ {K : Type 0} {F : FieldModel K} (L : LawfulField F) (h v : ℕ) (ms : L
       let stated = (reads_sheets F L (terms_of q h v) e.sheet c vs).0 p.reads in
       let unlike = false_unlike L q Q h v fit fs (within F h v ms) c vs stated.least stated.greatest p.adds (claim_false r _ e c p f) in
       unlike_few L q Q h v fit fs vs stated.count unlike (r ∷ rs) d
-      (each_map (λ s. AcceptedAt s e) (λ s. Agree F q h v vs s (columns F h v fs s)) (r ∷ rs)
-      (λ s y. subst (λ ws. Agree F q h v ws s (columns F h v fs s)) (ap values_of (sym y.passed.reads ∙ p.reads)) y.passed.agrees) a)
+      (each_map (λ s. AcceptedAt s e) (λ s. Agree F q h v vs s (columns_at F h v fs s)) (r ∷ rs)
+      (λ s y. subst (λ ws. Agree F q h v ws s (columns_at F h v fs s)) (ap values_of (sym y.passed.reads ∙ p.reads)) y.passed.agrees) a)
 
   -- the points of several sheets are no more than the degrees of those that claim falsely
   entries_few : (es : List (Entry K)) → AllByRecursion (λ e. LawfulQuestion F e.question) es → (rs : List K) → Distinct rs → AllByRecursion (λ r. AnyByRecursion (FalselyAt r) es) rs → length rs ≤ false_degrees F h v ms es
@@ -90,7 +90,7 @@ module _ {K : Type 0} {F : FieldModel K} (L : LawfulField F) (h v : ℕ) (ms : L
   fooled_entry : (es : List (Entry K)) (r : K) → Fooled F h v ms es r → AnyByRecursion (FalselyAt r) es
   fooled_entry es r k =
       let gs = judgings F h v ms k.judges.run in
-      let found = pick _ _ gs k.accepts (each_both _ _ gs k.judges.listed (settled L h v ms r k.judges.run).all) in
+      let found = pick _ _ gs k.accepts (each_both _ _ gs k.judges.on_list (settled L h v ms r k.judges.run).all) in
       go found.0 found.1.0 found.1.1 found.1.2 found.2.0 found.2.1
     where
       go : (g : Judging K × Judgement K) (c : ℤ) → g.1.answer ≡ Ok c → FalseClaim F h v ms (entry_of g.0) → AnyByRecursion (λ e. e ≡ entry_of g.0) es → JudgedBy L h v ms r g → AnyByRecursion (FalselyAt r) es

@@ -48,7 +48,7 @@ module _ {K : Type 0} (F : FieldModel K) where
       let given = k.answers (record { question = q; tray = tray; paper = paper }) ∙ answer_granted L q Q h v fit fs w k.bank k.long k.right tray t paper p in
       let left = ap (λ z. z.paper) given in
       record {
-        size = n;
+        bytes = n;
         answer = ap (λ z. z.answer) given;
         inside = omega (arith, honest_short L q Q h v fit fs w);
         values = ap (λ z. z.tray) given;

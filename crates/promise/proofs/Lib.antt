@@ -12,4 +12,3 @@ pub mod Honesty
 pub mod Promise
 pub mod Adequacy
 pub mod OneRow
-pub mod WorkedBoard

@@ -1,14 +1,14 @@
 -- Runs of an end that stands in a relation to a ledger: the relation holds at the run's end, the notes are answered as the ledger answers them,
 -- and a sealed end stood in the relation whenever it replied. Assumes nothing.
 use Rattle.std.proofs.Common.{◌≡◌, ℕ, List, [], ◌∷◌, Ok, Err, Result, sym, refl, subst, ap₂, inl, inr}
-use mathlib.Core.Option.{Some}
+use Rattle.std.specs.Prelude.{Some}
 use Rattle.std.specs.List.{AllByRecursion}
 use Rattle.board.specs.declared.moves.Move.{Move}
 use Rattle.refusal.specs.declared.refusal.Refusal.{Refusal}
 use Rattle.board.specs.Books.{ledger_standing}
 use Rattle.board.specs.Ledger.{Ledger, ledger_start, ledger_answer, ledger_next, ledger_from, answers_from}
 use Rattle.promise.specs.Runs.{End, Request, opening, noting, sealing, asking, State, closed, listening, sealed, moves, begun, Shaped, after, granted_open, granted_by, note_answers, replies}
-use Rattle.promise.specs.Ledgers.{Open, AlwaysLedger}
+use Rattle.promise.specs.Ledgers.{IsOpen, AlwaysLedger}
 
 -- what holds of the end in a state, if it is open
 module _ {X : Type 0} where
@@ -104,7 +104,7 @@ module _ {O X Q A : Type 0} {E : End O X Q A} {W : ℕ} {Stands : O → Ledger �
   ran (sealing ∷ rs) s o g = absurd s.0
   ran (asking q ∷ rs) s o g = absurd s.0
 
-  pub ran_at : (rs : List (Request O Q)) → Shaped E closed rs → (o : O) → granted_open E rs ≡ Some o → (x : X) → Open (after E closed rs) x → Ran rs o x
+  pub ran_at : (rs : List (Request O Q)) → Shaped E closed rs → (o : O) → granted_open E rs ≡ Some o → (x : X) → IsOpen (after E closed rs) x → Ran rs o x
   ran_at rs s o g x (inl e) = subst (Holds (Ran rs o)) e (ran rs s o g)
   ran_at rs s o g x (inr e) = subst (Holds (Ran rs o)) e (ran rs s o g)
 

@@ -1,13 +1,13 @@
 -- Every list of requests of the form has exactly one run. Assumes nothing.
 use Rattle.std.proofs.Common.{◌≡◌, List, [], ◌∷◌, ◌++◌, map, Ok, Err, Result, sym, refl, ap, ◌∙◌, subst, ap₂, inl, inr}
 use Rattle.std.proofs.lemmas.List.{append-nil}
-use mathlib.Core.Option.{Option, Some}
+use Rattle.std.specs.Prelude.{Option, Some}
 use Rattle.std.specs.List.{AllByRecursion}
 use Rattle.board.specs.declared.moves.Move.{Move}
 use Rattle.refusal.specs.declared.refusal.Refusal.{Refusal}
 use Rattle.promise.specs.Runs.{End, Request, opening, noting, sealing, asking, State, closed, listening, sealed, moves, begun, next, Possible, Shaped, after, granted_open, granted_by, note_answers, replies}
-use Rattle.promise.specs.Ledgers.{Open}
-use Rattle.promise.specs.Shapes.{whole, Response, to_open, to_note, to_seal, to_ask, answers_in, replies_in, Refused, Form, unopened, unsealed, complete, Step, refused, opened, noted, shut, asked, Run, stop, goes, OneRun, Completed, RunsOf}
+use Rattle.promise.specs.Ledgers.{IsOpen}
+use Rattle.promise.specs.Shapes.{complete_requests, Response, to_open, to_note, to_seal, to_ask, answers_in, replies_in, Refused, Form, unopened, unsealed, complete, Step, by_refused_open, by_open, by_note, by_seal, by_asking, Run, stop, goes, OneRun, Completed, RunsOf}
 use Rattle.promise.proofs.Runs.{Holds}
 
 module _ {O X Q A : Type 0} (E : End O X Q A) where
@@ -102,19 +102,19 @@ module _ {O X Q A : Type 0} (E : End O X Q A) where
   step closed (opening o) p = go (E.grant o) refl
     where
       go : (a : Result (Unit {0}) Refusal) → E.grant o ≡ a → Step E closed (opening o) (to_open a) (begun E a o)
-      go (Ok u) e = opened o u e
-      go (Err r) e = refused o r e
+      go (Ok u) e = by_open o u e
+      go (Err r) e = by_refused_open o r e
   step (listening x) (opening o) p = absurd p
   step (sealed x) (opening o) p = absurd p
   step closed (noting m) p = absurd p
-  step (listening x) (noting m) p = noted x m
+  step (listening x) (noting m) p = by_note x m
   step (sealed x) (noting m) p = absurd p
   step closed sealing p = absurd p
-  step (listening x) sealing p = shut x
+  step (listening x) sealing p = by_seal x
   step (sealed x) sealing p = absurd p
   step closed (asking q) p = absurd p
   step (listening x) (asking q) p = absurd p
-  step (sealed x) (asking q) p = asked x q
+  step (sealed x) (asking q) p = by_asking x q
 
   runs : (s : State X) (rs : List (Request O Q)) → Shaped E s rs → Run E s rs (responses_to s rs) (after E s rs)
   unfolding responses_to
@@ -123,11 +123,11 @@ module _ {O X Q A : Type 0} (E : End O X Q A) where
 
   step_only : (s : State X) (r : Request O Q) (a : Response Q A) (t : State X) → Step E s r a t → (a ≡ response_to s r) × (t ≡ next E s r)
   unfolding response_to
-  step_only _ _ _ _ (refused o r e) = (ap to_open (sym e), sym (ap (λ a. begun E a o) e))
-  step_only _ _ _ _ (opened o u e) = (ap to_open (sym e), sym (ap (λ a. begun E a o) e))
-  step_only _ _ _ _ (noted x m) = (refl, refl)
-  step_only _ _ _ _ (shut x) = (refl, refl)
-  step_only _ _ _ _ (asked x q) = (refl, refl)
+  step_only _ _ _ _ (by_refused_open o r e) = (ap to_open (sym e), sym (ap (λ a. begun E a o) e))
+  step_only _ _ _ _ (by_open o u e) = (ap to_open (sym e), sym (ap (λ a. begun E a o) e))
+  step_only _ _ _ _ (by_note x m) = (refl, refl)
+  step_only _ _ _ _ (by_seal x) = (refl, refl)
+  step_only _ _ _ _ (by_asking x q) = (refl, refl)
 
   runs_only : (s : State X) (rs : List (Request O Q)) (given : List (Response Q A)) (t : State X) → Run E s rs given t → (given ≡ responses_to s rs) × (t ≡ after E s rs)
   unfolding responses_to
@@ -143,11 +143,11 @@ module _ {O X Q A : Type 0} (E : End O X Q A) where
       (possible s r a t d, subst (λ z. Shaped E z rs) (step_only s r a t d).1 (shaped t rs given u later))
     where
       possible : (s : State X) (r : Request O Q) (a : Response Q A) (t : State X) → Step E s r a t → Possible E s r
-      possible _ _ _ _ (refused o r e) = tt
-      possible _ _ _ _ (opened o u e) = tt
-      possible _ _ _ _ (noted x m) = tt
-      possible _ _ _ _ (shut x) = tt
-      possible _ _ _ _ (asked x q) = tt
+      possible _ _ _ _ (by_refused_open o r e) = tt
+      possible _ _ _ _ (by_open o u e) = tt
+      possible _ _ _ _ (by_note x m) = tt
+      possible _ _ _ _ (by_seal x) = tt
+      possible _ _ _ _ (by_asking x q) = tt
 
   -- the functions of the requests read the run off
   read_answers : (s : State X) (rs : List (Request O Q)) → Shaped E s rs → note_answers E s rs ≡ answers_in (responses_to s rs)
@@ -188,7 +188,7 @@ module _ {O X Q A : Type 0} (E : End O X Q A) where
     run = runs closed rs h;
     only = λ given s d. runs_only closed rs given s d;
     answers = read_answers closed rs h;
-    replied = read_replies closed rs h;
+    replies_are = read_replies closed rs h;
   }
 
   -- ---- complete lists
@@ -218,10 +218,10 @@ module _ {O X Q A : Type 0} (E : End O X Q A) where
   completed (p ∷ os) h o e ms qs =
       let t = completed os h.1 o e ms qs in
       record {
-        grants = ap (λ a. granted_by E a p (granted_open E (whole os o ms qs))) h.0.1 ∙ t.grants;
+        grants = ap (λ a. granted_by E a p (granted_open E (complete_requests os o ms qs))) h.0.1 ∙ t.grants;
         told = t.told;
         end = t.end;
-        ends = ap (λ a. after E (begun E a p) (whole os o ms qs)) h.0.1 ∙ t.ends;
+        ends = ap (λ a. after E (begun E a p) (complete_requests os o ms qs)) h.0.1 ∙ t.ends;
       }
 
   -- ---- openings and beginnings
@@ -248,7 +248,7 @@ module _ {O X Q A : Type 0} (E : End O X Q A) where
   open_granted (sealing ∷ rs) s = absurd s.0
   open_granted (asking q ∷ rs) s = absurd s.0
 
-  openings : (rs : List (Request O Q)) → Shaped E closed rs → (x : X) → Open (after E closed rs) x → (o : O) × (granted_open E rs ≡ Some o)
+  openings : (rs : List (Request O Q)) → Shaped E closed rs → (x : X) → IsOpen (after E closed rs) x → (o : O) × (granted_open E rs ≡ Some o)
   openings rs s x (inl e) = subst (Holds (SomeGrant rs)) e (open_granted rs s)
   openings rs s x (inr e) = subst (Holds (SomeGrant rs)) e (open_granted rs s)
 

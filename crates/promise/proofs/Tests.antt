@@ -5,9 +5,9 @@ use Rattle.std.proofs.lemmas.Int.{ints}
 use Rattle.field.specs.Field.{FieldModel}
 use Rattle.board.specs.declared.moves.Move.{Move}
 use Rattle.refusal.specs.declared.refusal.Refusal.{Refusal}
-use Rattle.question.specs.declared.outcome.Fit.{Fit}
-use Rattle.question.specs.declared.outcome.Fit.TheVariants as fit
-use Rattle.protocol.specs.Asking.{is_fit, read_sheet}
+use Rattle.question.specs.declared.fit.Fit.{Fit}
+use Rattle.question.specs.declared.fit.Fit.TheVariants as fit
+use Rattle.protocol.specs.Asking.{is_fit, reading_under}
 use Rattle.promise.specs.Claims.{Entry, claim_differs, true_count, FalseClaim, claims_falsely}
 use Rattle.promise.specs.Adequacy.{TestsFalseClaims}
 
@@ -23,9 +23,9 @@ tests_apart c t n = lt-ltb 0 (nat_abs (c -ℤ t)) (omega (arith, ints))
 
 module _ {K : Type 0} (F : FieldModel K) (h v : ℕ) (ms : List Move) (e : Entry K) where
   pub false_claim : claims_falsely F h v ms e ≡ true → FalseClaim F h v ms e
-  false_claim = go (e.question.fits h v) (read_sheet F e.question h v e.sheet) refl refl
+  false_claim = go (e.question.fits h v) (reading_under F e.question h v e.sheet) refl refl
     where
-      go : (f : Fit) (s : Result (ℤ × List K) Refusal) → e.question.fits h v ≡ f → read_sheet F e.question h v e.sheet ≡ s → (is_fit f && claim_differs s (true_count F h v ms e.question)) ≡ true → FalseClaim F h v ms e
+      go : (f : Fit) (s : Result (ℤ × List K) Refusal) → e.question.fits h v ≡ f → reading_under F e.question h v e.sheet ≡ s → (is_fit f && claim_differs s (true_count F h v ms e.question)) ≡ true → FalseClaim F h v ms e
       go fit.DoesNotFit s p r z = absurd (clash z)
       go fit.Fits (Err x) p r z = absurd (clash z)
       go fit.Fits (Ok s) p r z = record { fit = p; claim = s.0; values = s.1; reads = r; wrong = apart s.0 (true_count F h v ms e.question) z }

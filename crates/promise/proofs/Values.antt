@@ -3,6 +3,7 @@
 use Rattle.std.proofs.Common.{◌≡◌, ℕ, suc, ◌+◌, ◌%◌, ◌<◌, ◌≤◌, ◌≢◌, List, [], ◌∷◌, length, get_or, take, ℤ, pos, negsuc, ◌-ℤ◌, nat_abs, ◌≤ℤ◌, sym, refl, ap, ◌∙◌, ap₂, inl, inr, mod-eq_of_lt, arith}
 use Rattle.std.proofs.lemmas.Int.{ints}
 use Rattle.field.specs.Field.{FieldModel, LawfulField, InRange, modulo}
+use Rattle.field.specs.declared.limits.TheConstants.{INVERSES}
 use Rattle.field.proofs.Consequences.{image-sub}
 use Rattle.field.proofs.Sameness.{decided}
 use Rattle.field.proofs.Solver.{sides, solve}
@@ -12,7 +13,7 @@ use Rattle.std.specs.List.{AllByRecursion}
 use Rattle.polynomial.specs.Sums.{list_sum}
 use Rattle.polynomial.specs.Polynomials.{sub, eval, scaled, poly_add}
 use Rattle.polynomial.specs.Interpolation.{node, interpolant}
-use Rattle.polynomial.specs.Columns.{columns}
+use Rattle.polynomial.specs.Columns.{columns_at}
 use Rattle.polynomial.proofs.Columns.{columns_node, column_polynomials, eval-columns, length-columns, short_columns}
 use Rattle.polynomial.proofs.Evals.{eval-poly_add, eval_scaled, length-poly_add, length_scaled}
 use Rattle.polynomial.proofs.Lagrange.{interpolation}
@@ -74,7 +75,7 @@ module _ {K : Type 0} {F : FieldModel K} (L : LawfulField F) where
     rows_most : h ≤ 64
     rows_most = (allowed_grid h v fit.grid).rows_most
 
-    pub degree_small : q.degree h ≤ 252
+    pub degree_small : q.degree h ≤ INVERSES
     degree_small = omega (arith, rows_most, Q.degree_most h v fit)
 
     pub rows_fit : h ≤ suc (q.degree h)
@@ -92,7 +93,7 @@ module _ {K : Type 0} {F : FieldModel K} (L : LawfulField F) where
       unfolding rule_poly
       rule_short = follows.short
 
-      eval_rule : (X : K) → eval F rule_poly X ≡ q.rule h v X (columns F h v fs X)
+      eval_rule : (X : K) → eval F rule_poly X ≡ q.rule h v X (columns_at F h v fs X)
       unfolding rule_poly
       eval_rule X = follows.value X ∙ ap (q.rule h v X) (eval-columns L h v fs X)
 
@@ -103,10 +104,10 @@ module _ {K : Type 0} {F : FieldModel K} (L : LawfulField F) where
       honest_at : (j : ℕ) → j < suc (q.degree h) → get_or (honest F h v q fs) j F.zero ≡ eval F rule_poly (node F j)
       honest_at j b =
           let e : 0 + j ≡ j = omega arith in
-          get_or-listed 0 (suc (q.degree h)) (λ k. q.rule h v (node F k) (columns F h v fs (node F k))) j F.zero b
-          ∙ ap (λ k. q.rule h v (node F k) (columns F h v fs (node F k))) e ∙ sym (eval_rule (node F j))
+          get_or-listed 0 (suc (q.degree h)) (λ k. q.rule h v (node F k) (columns_at F h v fs (node F k))) j F.zero b
+          ∙ ap (λ k. q.rule h v (node F k) (columns_at F h v fs (node F k))) e ∙ sym (eval_rule (node F j))
 
-      pub honest_agree : (r : K) → Agree F q h v (honest F h v q fs) r (columns F h v fs r)
+      pub honest_agree : (r : K) → Agree F q h v (honest F h v q fs) r (columns_at F h v fs r)
       honest_agree r =
           sym ((interpolation L (honest F h v q fs) (omega (arith, length_honest, degree_small))).only rule_poly (omega (arith, length_honest, rule_short)) (λ k b. sym (honest_at k (omega (arith, length_honest)))) r)
           ∙ eval_rule r
@@ -126,7 +127,7 @@ module _ {K : Type 0} {F : FieldModel K} (L : LawfulField F) where
           d (same_claim c (q.tally h v fs) a b (Q.tally_least h v fit fs w) (Q.tally_most h v fit fs w)
           (sym (claim_image_lem c (claim_range c a b)) ∙ sym s ∙ ap (λ ws. list_sum F (take h ws)) z ∙ honest_sum w))
 
-      pub unlike_few : (vs : List K) → length vs ≡ suc (q.degree h) → vs ≢ honest F h v q fs → (rs : List K) → Distinct rs → AllByRecursion (λ r. Agree F q h v vs r (columns F h v fs r)) rs → length rs ≤ q.degree h
+      pub unlike_few : (vs : List K) → length vs ≡ suc (q.degree h) → vs ≢ honest F h v q fs → (rs : List K) → Distinct rs → AllByRecursion (λ r. Agree F q h v vs r (columns_at F h v fs r)) rs → length rs ≤ q.degree h
       unlike_few vs l n rs d agree =
           root_bound L (q.degree h) difference short (node F z.place, nonzero) rs d (each_map _ _ rs (λ r e. eval_difference r ∙ ap (λ w. sub F w (eval F rule_poly r)) (e ∙ sym (eval_rule r)) ∙ L.ring.add-neg _) agree)
         where

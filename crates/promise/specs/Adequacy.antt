@@ -11,8 +11,8 @@ use Rattle.promise.specs.Claims.{Entry, FalseClaim, claims_falsely}
 use Rattle.promise.specs.Sealed.{SealedVerifier, SealedHost, Fooled}
 
 -- the same opening at another point
-abbrev pub at : {K : Type 0} → K → VerifierOpening K → VerifierOpening K
-at r o = record { rows = o.rows; columns = o.columns; bank = o.bank; point = r }
+abbrev pub with_point : {K : Type 0} → K → VerifierOpening K → VerifierOpening K
+with_point r o = record { rows = o.rows; columns = o.columns; bank = o.bank; point = r }
 
 module _ {K : Type 0} (F : FieldModel K) where
   -- at both ends the lists of requests that have a run are those of the form, and each has exactly one
@@ -27,7 +27,7 @@ module _ {K : Type 0} (F : FieldModel K) where
 
   -- whether a box is opened does not depend on its point
   abbrev pub GrantedAnywhere : Type 0
-  GrantedAnywhere = (o : VerifierOpening K) (r : K) → (verifier_end F).grant (at r o) ≡ (verifier_end F).grant o
+  GrantedAnywhere = (o : VerifierOpening K) (r : K) → (verifier_end F).grant (with_point r o) ≡ (verifier_end F).grant o
 
   -- the test for false claims holds exactly of the false claims
   abbrev pub TestsFalseClaims : Type 0

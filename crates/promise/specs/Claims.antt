@@ -1,12 +1,12 @@
 -- True counts and false claims. Assumes nothing.
-use Rattle.std.specs.Prelude.{◌≡◌, ℕ, ◌+◌, Bool, false, cond, ◌&&◌, ◌≢◌, List, [], ◌∷◌, ℤ, ◌-ℤ◌, Ok, Err, Result, nat_lt, unsigned_abs}
+use Rattle.std.specs.Prelude.{◌≡◌, ℕ, ◌+◌, Bool, false, if◌then◌else◌, ◌&&◌, ◌≢◌, List, [], ◌∷◌, ℤ, ◌-ℤ◌, Ok, Err, Result, nat_lt, unsigned_abs}
 use Rattle.field.specs.Field.{FieldModel}
 use Rattle.board.specs.declared.moves.Move.{Move}
 use Rattle.refusal.specs.declared.refusal.Refusal.{Refusal}
 use Rattle.board.specs.Ledger.{ledger}
-use Rattle.question.specs.declared.outcome.Fit.TheVariants as fit
+use Rattle.question.specs.declared.fit.Fit.TheVariants as fit
 use Rattle.question.specs.Question.{QuestionModel}
-use Rattle.protocol.specs.Asking.{is_fit, read_sheet}
+use Rattle.protocol.specs.Asking.{is_fit, reading_under}
 
 -- a sheet, with the question that it is judged under
 pub record Entry (K : Type 0) : Type 0 where
@@ -28,14 +28,14 @@ module _ {K : Type 0} (F : FieldModel K) (h v : ℕ) (ms : List Move) where
     pub fit : e.question.fits h v ≡ fit.Fits
     pub claim : ℤ
     pub values : List K
-    pub reads : read_sheet F e.question h v e.sheet ≡ Ok (claim, values)
+    pub reads : reading_under F e.question h v e.sheet ≡ Ok (claim, values)
     pub wrong : claim ≢ true_count F h v ms e.question
 
   -- the same, as a test
   abbrev pub claims_falsely : Entry K → Bool
-  claims_falsely e = is_fit (e.question.fits h v) && claim_differs (read_sheet F e.question h v e.sheet) (true_count F h v ms e.question)
+  claims_falsely e = is_fit (e.question.fits h v) && claim_differs (reading_under F e.question h v e.sheet) (true_count F h v ms e.question)
 
   -- the degrees of the listed sheets that claim falsely, added
   abbrev pub false_degrees : List (Entry K) → ℕ
   false_degrees [] = 0
-  false_degrees (e ∷ es) = cond (claims_falsely e) (e.question.degree h) 0 + false_degrees es
+  false_degrees (e ∷ es) = (if claims_falsely e then e.question.degree h else 0) + false_degrees es

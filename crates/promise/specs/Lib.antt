@@ -7,4 +7,3 @@ pub mod Claims
 pub mod Sealed
 pub mod Promise
 pub mod Adequacy
-pub mod WorkedBoard

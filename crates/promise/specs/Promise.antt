@@ -5,20 +5,21 @@ use Rattle.board.specs.declared.moves.Move.{Move}
 use Rattle.board.specs.Ledger.{ledger}
 use Rattle.polynomial.specs.Lists.{Distinct}
 use Rattle.std.specs.List.{AllByRecursion}
-use Rattle.polynomial.specs.Columns.{columns}
-use Rattle.question.specs.declared.outcome.Fit.TheVariants as fit
+use Rattle.polynomial.specs.Columns.{columns_at}
+use Rattle.question.specs.declared.fit.Fit.TheVariants as fit
 use Rattle.question.specs.Question.{QuestionModel, LawfulQuestion}
+use Rattle.writer.specs.declared.limits.TheConstants.{ENOUGH_PAPER}
 use Rattle.host.specs.Notes.{HostState}
 use Rattle.verifier.specs.Notes.{VerifierState}
 use Rattle.promise.specs.Runs.{Request, closed, moves, Shaped, after, granted_open}
-use Rattle.promise.specs.Ledgers.{Open, AlwaysLedger}
+use Rattle.promise.specs.Ledgers.{IsOpen, AlwaysLedger}
 use Rattle.promise.specs.Ends.{VerifierOpening, Judging, verifier_end, HostOpening, Answering, host_end}
 use Rattle.promise.specs.Claims.{Entry, true_count, FalseClaim, false_degrees}
 use Rattle.promise.specs.Sealed.{SealedHost, host_gives, judgings, entry_of, ListedRun, Fooled, HonestAnswer}
 
 -- paper long enough for the sheet of any lawful question
 abbrev pub LongPaper : List ℕ → Type 0
-LongPaper paper = 9216 ≤ length paper
+LongPaper paper = ENOUGH_PAPER ≤ length paper
 
 module _ {K : Type 0} (F : FieldModel K) where
   -- for every lawful question that fits, with tray and paper long enough, a host answers honestly, after whatever it was asked before
@@ -45,14 +46,14 @@ module _ {K : Type 0} (F : FieldModel K) where
   abbrev pub VerifierSums : Type 0
   VerifierSums =
       (rs : List (Request (VerifierOpening K) (Judging K))) → Shaped (verifier_end F) closed rs → (o : VerifierOpening K) → granted_open (verifier_end F) rs ≡ Some o
-      → (x : VerifierState K) → Open (after (verifier_end F) closed rs) x
-      → take o.columns x.bank ≡ columns F o.rows o.columns (ledger o.rows o.columns F.limit (moves rs)).counts o.point
+      → (x : VerifierState K) → IsOpen (after (verifier_end F) closed rs) x
+      → take o.columns x.bank ≡ columns_at F o.rows o.columns (ledger o.rows o.columns F.limit (moves rs)).counts o.point
 
   -- after every request the host's bank begins with its ledger's counts
   abbrev pub HostCounts : Type 0
   HostCounts =
       (rs : List (Request HostOpening (Answering K))) → Shaped (host_end F) closed rs → (o : HostOpening) → granted_open (host_end F) rs ≡ Some o
-      → (x : HostState) → Open (after (host_end F) closed rs) x
+      → (x : HostState) → IsOpen (after (host_end F) closed rs) x
       → take (o.rows * o.columns) x.bank ≡ (ledger o.rows o.columns F.limit (moves rs)).counts
 
   -- the promise as one whole

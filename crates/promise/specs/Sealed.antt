@@ -6,7 +6,7 @@ use Rattle.board.specs.Ledger.{ledger}
 use Rattle.polynomial.specs.Lists.{AnyByRecursion}
 use Rattle.std.specs.List.{AllByRecursion}
 use Rattle.polynomial.specs.Interpolation.{node}
-use Rattle.polynomial.specs.Columns.{columns}
+use Rattle.polynomial.specs.Columns.{columns_at}
 use Rattle.question.specs.Question.{QuestionModel}
 use Rattle.protocol.specs.Asking.{honest}
 use Rattle.host.specs.Answering.{Answered}
@@ -46,7 +46,7 @@ module _ {K : Type 0} (F : FieldModel K) (h v : ℕ) (ms : List Move) where
   -- a run that judges listed sheets alone: any of them, with any trays, in any order, as often as it likes
   pub record ListedRun (es : List (Entry K)) (r : K) : Type 0 where
     pub run : SealedVerifier r
-    pub listed : AllByRecursion (λ g. AnyByRecursion (λ e. e ≡ entry_of g.0) es) (judgings run)
+    pub on_list : AllByRecursion (λ g. AnyByRecursion (λ e. e ≡ entry_of g.0) es) (judgings run)
 
   -- a point at which some such run accepts a listed sheet with a false claim
   pub record Fooled (es : List (Entry K)) (r : K) : Type 0 where
@@ -72,9 +72,9 @@ module _ {K : Type 0} (F : FieldModel K) (h v : ℕ) (ms : List Move) where
   -- what an honest host gives for a question: the true count, the values of the question's polynomial at 0 to D with the columns at D behind them,
   -- and on the paper a sheet that every box told the same moves accepts at its point with the true count
   pub record HonestAnswer (q : QuestionModel K) (tray : List K) (paper : List ℕ) (given : Answered K) : Type 0 where
-    pub size : ℕ
-    pub answer : given.answer ≡ Ok (true_count F h v ms q, size)
-    pub inside : size ≤ length paper
-    pub values : given.tray ≡ honest F h v q (ledger h v F.limit ms).counts ++ (columns F h v (ledger h v F.limit ms).counts (node F (q.degree h)) ++ drop (suc (q.degree h) + v) tray)
-    pub rest : drop size given.paper ≡ drop size paper
-    pub accepted : (r : K) (box : SealedVerifier r) (tray' : List K) → suc (q.degree h) ≤ length tray' → (verifier_gives box q (take size given.paper) tray').answer ≡ Ok (true_count F h v ms q)
+    pub bytes : ℕ
+    pub answer : given.answer ≡ Ok (true_count F h v ms q, bytes)
+    pub inside : bytes ≤ length paper
+    pub values : given.tray ≡ honest F h v q (ledger h v F.limit ms).counts ++ (columns_at F h v (ledger h v F.limit ms).counts (node F (q.degree h)) ++ drop (suc (q.degree h) + v) tray)
+    pub rest : drop bytes given.paper ≡ drop bytes paper
+    pub accepted : (r : K) (box : SealedVerifier r) (tray' : List K) → suc (q.degree h) ≤ length tray' → (verifier_gives box q (take bytes given.paper) tray').answer ≡ Ok (true_count F h v ms q)

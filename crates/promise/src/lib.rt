@@ -1,61 +1,48 @@
-// What a host and a box promise together, over every lawful field. Each contract is one theorem.
+//! What a host and a box promise together, over every lawful field and all lawful questions.
+//! Each contract is one theorem.
 #![tactic(auto)]
 
 ghost use Rattle.promise.specs.Adequacy.{EveryListRuns, SealedRuns, GrantedAnywhere, TestsFalseClaims, NoneOnOneRow};
 ghost use Rattle.promise.specs.Counts.{ValuesAgainstCounts};
 ghost use Rattle.promise.specs.Promise.{Promised};
-ghost use Rattle.promise.specs.WorkedBoard.{BoundReached, WorkedPromise};
 
 use field::Field;
 
-// Honest sheets are accepted at every point, false claims at few, and both ends keep to the ledger.
+/// Honest sheets are accepted at every point, false claims at few, and both ends keep to the ledger.
 pub fn the_whole_promise<F: Field>()
     ensures { Promised F.Field.model }
 {}
 
-// Honest values pass at every point; values that add up to a false claim are unlike them, and such values pass at no more points than the degree.
+/// Honest values pass at every point; values that add up to a false claim are unlike them, and such values pass at no more points than the degree.
 pub fn values_against_counts<F: Field>()
     ensures { ValuesAgainstCounts F.Field.model }
 {}
 
-// Every list of requests of the form has exactly one run, and no other list has any.
+/// Every list of requests of the form has exactly one run, and no other list has any.
 pub fn every_list_has_one_run<F: Field>()
     ensures { EveryListRuns F.Field.model }
 {}
 
-// On every allowed grid, for all moves and at every point, both ends have a run that ends sealed.
+/// On every allowed grid, for all moves and at every point, both ends have a run that ends sealed.
 #[tactic(auto, using(crate::proofs::Adequacy::sealed_runs))]
 pub fn sealed_runs_exist<F: Field>()
     ensures { SealedRuns F.Field.model }
 {}
 
-// Whether a box is opened does not depend on its point.
+/// Whether a box is opened does not depend on its point.
 #[tactic(auto, using(crate::proofs::Adequacy::granted_anywhere))]
 pub fn grant_independent_of_point<F: Field>()
     ensures { GrantedAnywhere F.Field.model }
 {}
 
-// The sheets that the bound counts are those with a false claim.
+/// The sheets that the bound counts are those with a false claim.
 #[tactic(auto, using(crate::proofs::Tests::tests_false_claims))]
 pub fn false_claims_are_tested<F: Field>()
     ensures { TestsFalseClaims F.Field.model }
 {}
 
-// On one row no false claim is accepted at any point.
+/// On one row no false claim is accepted at any point.
 #[tactic(auto, using(crate::proofs::OneRow::none_on_one_row))]
 pub fn no_false_claim_on_one_row<F: Field>()
     ensures { NoneOnOneRow F.Field.model }
-{}
-
-// On a worked board the bound is reached: a sheet with a false claim and the bound 2 is accepted at two points.
-#[tactic(auto, using(crate::proofs::WorkedBoard::bound_reached))]
-pub fn bound_is_reached()
-    ensures { BoundReached }
-{}
-
-// What the promise comes to on that board: the sheet's two points are all that it has, two false sheets together are accepted at no more than
-// four points, and an honest host's count is accepted at every point.
-#[tactic(auto, using(crate::proofs::WorkedBoard::worked_promise))]
-pub fn promise_on_the_worked_board()
-    ensures { WorkedPromise }
 {}

@@ -3,11 +3,12 @@ use Rattle.std.specs.Prelude.{ℕ, suc, Bool, true, false, cond, ◌&&◌, List,
 use Rattle.refusal.specs.declared.refusal.Refusal.{Refusal}
 use Rattle.refusal.specs.declared.refusal.Refusal.TheVariants.{QuestionUnfit}
 use Rattle.field.specs.Field.{FieldModel, modulo}
+use Rattle.field.specs.declared.limits.TheConstants.{INVERSES}
 use Rattle.polynomial.specs.Lists.{listed}
 use Rattle.polynomial.specs.Interpolation.{node}
-use Rattle.polynomial.specs.Columns.{columns}
-use Rattle.question.specs.declared.outcome.Fit.{Fit}
-use Rattle.question.specs.declared.outcome.Fit.TheVariants as fit
+use Rattle.polynomial.specs.Columns.{columns_at}
+use Rattle.question.specs.declared.fit.Fit.{Fit}
+use Rattle.question.specs.declared.fit.Fit.TheVariants as fit
 use Rattle.question.specs.Question.{QuestionModel}
 use Rattle.sheet.specs.declared.terms.Terms.{Terms}
 use Rattle.sheet.specs.Readings.{reading}
@@ -20,7 +21,7 @@ is_fit fit.DoesNotFit = false
 module _ {K : Type 0} (q : QuestionModel K) (h v : ℕ) where
   -- the question fits the grid, and its degree is one that the ends take: from h − 1 to 252
   abbrev pub suits : Bool
-  suits = is_fit (q.fits h v) && (nat_le h (suc (q.degree h)) && nat_le (q.degree h) 252)
+  suits = is_fit (q.fits h v) && (nat_le h (suc (q.degree h)) && nat_le (q.degree h) INVERSES)
 
   -- what is answered to a question that does not suit
   abbrev pub suit_answer : Result (Unit {0}) Refusal
@@ -39,8 +40,8 @@ module _ {K : Type 0} (q : QuestionModel K) (h v : ℕ) where
 
 module _ {K : Type 0} (F : FieldModel K) where
   -- the claim and the values that a sheet for the question states, or its first fault
-  abbrev pub read_sheet : QuestionModel K → ℕ → ℕ → List ℕ → Result (ℤ × List K) Refusal
-  read_sheet q h v sheet = reading F (terms_of q h v) sheet
+  abbrev pub reading_under : QuestionModel K → ℕ → ℕ → List ℕ → Result (ℤ × List K) Refusal
+  reading_under q h v sheet = reading F (terms_of q h v) sheet
 
   -- the image of a claim: the element whose low part is the claim's remainder by p
   abbrev pub claim_image : ℤ → K
@@ -48,4 +49,4 @@ module _ {K : Type 0} (F : FieldModel K) where
 
   -- the values of the question's polynomial at 0 to its degree: the rule on the columns there
   abbrev pub honest : ℕ → ℕ → QuestionModel K → List ℤ → List K
-  honest h v q fs = listed 0 (suc (q.degree h)) (λ j. q.rule h v (node F j) (columns F h v fs (node F j)))
+  honest h v q fs = listed 0 (suc (q.degree h)) (λ j. q.rule h v (node F j) (columns_at F h v fs (node F j)))

@@ -1,4 +1,5 @@
-// What host and box agree on when a question is asked of a grid.
+//! What host and box agree on when a question is asked of a grid:
+//! whether it suits, what its sheet has to state, and the image of a claim.
 #![tactic(auto)]
 
 mod suited;

@@ -7,7 +7,7 @@ use field::Field;
 use question::Question;
 use sheet::Terms;
 
-// What a sheet for the question has to agree with.
+/// What a sheet for the question has to agree with, whether the question suits the grid or not.
 pub fn terms_of<F: Field, Q: Question<F>>(question: &Q, grid: Grid) -> Terms
     ensures { result ≡ terms_of (Q.Question.meaning question.now) grid.rows grid.columns }
 {
@@ -21,10 +21,10 @@ pub fn terms_of<F: Field, Q: Question<F>>(question: &Q, grid: Grid) -> Terms
     }
 }
 
-// The image of a claim, whatever its size.
+/// The image of a claim of any size: the element whose low part is the claim's remainder by p, from 0 to p − 1.
 pub fn claim_image<F: Field>(claim: i64) -> F
     ensures { result ≡ claim_image F.Field.model claim }
 {
-    let p = i64::from(F::characteristic());
+    let p = i64::from(F::CHARACTERISTIC);
     F::of_parts(claim.rem_euclid(p) as u32, 0)
 }

@@ -7,7 +7,7 @@ use Rattle.board.specs.Banks.{filled}
 use Rattle.field.specs.Field.{FieldModel}
 use Rattle.sheet.specs.Readings.{claim_of, tray_of, read_answer, tray_after}
 use Rattle.question.specs.Question.{QuestionModel}
-use Rattle.protocol.specs.Asking.{suits, terms_of, read_sheet}
+use Rattle.protocol.specs.Asking.{suits, terms_of, reading_under}
 use Rattle.verifier.specs.Judging.{Judgement, judge_ready, weighed, tray_left, settled_by, judged}
 
 -- an answer and a tray that are alike come to the same
@@ -17,7 +17,7 @@ given e f = λ i. record { answer = e i; tray = f i }
 module _ {K : Type 0} (F : FieldModel K) (h v : ℕ) (r : K) (bank : List K) (q : QuestionModel K) (sheet : List ℕ) (tray : List K) where
   -- a judgement that is settled before the sheet is read
   settled_early : (e : Refusal) → judge_ready F h v r bank q tray ≡ Err e → judged F h v r bank q sheet tray ≡ record { answer = Err e; tray = tray }
-  settled_early e p = ap (λ a. settled_by F h v r a (take v bank) q (read_sheet F q h v sheet) tray) p
+  settled_early e p = ap (λ a. settled_by F h v r a (take v bank) q (reading_under F q h v sheet) tray) p
 
   module _ (long : v ≤ length bank) where
     ready : (b : Bool) → suits q h v ≡ b → judge_ready F h v r bank q tray ≡ cond b (cond (ltb (q.degree h) (length tray)) (Ok tt) (Err TrayShort)) (Err QuestionUnfit)
@@ -34,13 +34,13 @@ module _ {K : Type 0} (F : FieldModel K) (h v : ℕ) (r : K) (bank : List K) (q 
 
         go : (b : Bool) → ltb (q.degree h) (length tray) ≡ b → judged F h v r bank q sheet tray ≡ record { answer = Err e; tray = tray_after F (terms_of q h v) sheet tray }
         go true t =
-            ap (λ z. settled_by F h v r z (take v bank) q (read_sheet F q h v sheet) tray) (ready true p ∙ ap (λ b. cond b (Ok tt) (Err TrayShort)) t)
-            ∙ read (read_sheet F q h v sheet) (sym (ap (λ b. cond b (claim_of F (read_sheet F q h v sheet)) (Err TrayShort)) t) ∙ a)
-            ∙ ap (λ z. record { answer = Err e; tray = z }) (sym (ap (λ b. cond b (tray_of F (suc (q.degree h)) (read_sheet F q h v sheet) tray) tray) t))
+            ap (λ z. settled_by F h v r z (take v bank) q (reading_under F q h v sheet) tray) (ready true p ∙ ap (λ b. cond b (Ok tt) (Err TrayShort)) t)
+            ∙ read (reading_under F q h v sheet) (sym (ap (λ b. cond b (claim_of F (reading_under F q h v sheet)) (Err TrayShort)) t) ∙ a)
+            ∙ ap (λ z. record { answer = Err e; tray = z }) (sym (ap (λ b. cond b (tray_of F (suc (q.degree h)) (reading_under F q h v sheet) tray) tray) t))
         go false t =
-            let short : TrayShort ≡ e = (let x = sym (ap (λ b. cond b (claim_of F (read_sheet F q h v sheet)) (Err TrayShort)) t) ∙ a in cc) in
+            let short : TrayShort ≡ e = (let x = sym (ap (λ b. cond b (claim_of F (reading_under F q h v sheet)) (Err TrayShort)) t) ∙ a in cc) in
             settled_early TrayShort (ready true p ∙ ap (λ b. cond b (Ok tt) (Err TrayShort)) t)
-            ∙ ap₂ (λ z w. record { answer = Err z; tray = w }) short (sym (ap (λ b. cond b (tray_of F (suc (q.degree h)) (read_sheet F q h v sheet) tray) tray) t))
+            ∙ ap₂ (λ z w. record { answer = Err z; tray = w }) short (sym (ap (λ b. cond b (tray_of F (suc (q.degree h)) (reading_under F q h v sheet) tray) tray) t))
 
     -- a reading that gives a claim and values
     pub record Weighed (c : ℤ) : Type 0 where
@@ -53,19 +53,19 @@ module _ {K : Type 0} (F : FieldModel K) (h v : ℕ) (r : K) (bank : List K) (q 
       }
 
     pub read : suits q h v ≡ true → (c : ℤ) → read_answer F (terms_of q h v) sheet tray ≡ Ok c → Weighed c
-    read p c a = go (ltb (q.degree h) (length tray)) refl (read_sheet F q h v sheet) refl
+    read p c a = go (ltb (q.degree h) (length tray)) refl (reading_under F q h v sheet) refl
       where
-        go : (b : Bool) → ltb (q.degree h) (length tray) ≡ b → (s : Result (ℤ × List K) Refusal) → read_sheet F q h v sheet ≡ s → Weighed c
-        go false t s k = absurd (let x = sym (ap (λ b. cond b (claim_of F (read_sheet F q h v sheet)) (Err TrayShort)) t) ∙ a in let z : ◌≡◌ {A = ℕ} 0 1 = cc in omega arith)
+        go : (b : Bool) → ltb (q.degree h) (length tray) ≡ b → (s : Result (ℤ × List K) Refusal) → reading_under F q h v sheet ≡ s → Weighed c
+        go false t s k = absurd (let x = sym (ap (λ b. cond b (claim_of F (reading_under F q h v sheet)) (Err TrayShort)) t) ∙ a in let z : ◌≡◌ {A = ℕ} 0 1 = cc in omega arith)
         go true t (Err y) k =
-            absurd (let x = sym (ap (claim_of F) k) ∙ sym (ap (λ b. cond b (claim_of F (read_sheet F q h v sheet)) (Err TrayShort)) t) ∙ a in let z : ◌≡◌ {A = ℕ} 0 1 = cc in omega arith)
+            absurd (let x = sym (ap (claim_of F) k) ∙ sym (ap (λ b. cond b (claim_of F (reading_under F q h v sheet)) (Err TrayShort)) t) ∙ a in let z : ◌≡◌ {A = ℕ} 0 1 = cc in omega arith)
         go true t (Ok s) k =
-            let x = sym (ap (claim_of F) k) ∙ sym (ap (λ b. cond b (claim_of F (read_sheet F q h v sheet)) (Err TrayShort)) t) ∙ a in
+            let x = sym (ap (claim_of F) k) ∙ sym (ap (λ b. cond b (claim_of F (reading_under F q h v sheet)) (Err TrayShort)) t) ∙ a in
             let same : s.0 ≡ c = cc in
             record {
               values = s.1;
               room = ltb-true _ _ t;
-              left = ap (λ b. cond b (tray_of F (suc (q.degree h)) (read_sheet F q h v sheet) tray) tray) t ∙ ap (λ z. tray_of F (suc (q.degree h)) z tray) k;
+              left = ap (λ b. cond b (tray_of F (suc (q.degree h)) (reading_under F q h v sheet) tray) tray) t ∙ ap (λ z. tray_of F (suc (q.degree h)) z tray) k;
               is =
                   ap₂ (λ z w. settled_by F h v r z (take v bank) q w tray) (ready true p ∙ ap (λ b. cond b (Ok tt) (Err TrayShort)) t) k
                   ∙ ap (λ z. record {

@@ -17,7 +17,7 @@ use Rattle.field.proofs.Consequences.{limit_small}
 use Rattle.field.proofs.Solver.{zero-mul}
 use Rattle.polynomial.specs.Lists.{listed}
 use Rattle.polynomial.specs.Interpolation.{chi}
-use Rattle.polynomial.specs.Columns.{columns}
+use Rattle.polynomial.specs.Columns.{columns_at}
 use Rattle.polynomial.proofs.Columns.{columns_move}
 use Rattle.polynomial.proofs.Sums.{listed_cong, sum_cong, sum_zeros}
 use Rattle.verifier.specs.Calls.{verifier_open_answer, verifier_open_bank, move_share, added_column, verifier_note_answer}
@@ -29,7 +29,7 @@ pub record Stands {K : Type 0} (F : FieldModel K) (h v : ℕ) (r : K) (rest : Li
   pub is : s ≡ record { standing = ledger_standing h v l; point = r; bank = bank }
   pub allowed : grid_allowed h v ≡ true
   pub long : v ≤ length bank
-  pub right : take v bank ≡ columns F h v l.counts r
+  pub right : take v bank ≡ columns_at F h v l.counts r
   pub behind : drop v bank ≡ rest
   pub kept : Kept h v F.limit l
 
@@ -44,7 +44,7 @@ listed_same j (suc n) a = ap (◌∷◌ a) (listed_same (suc j) n a)
 
 module _ {K : Type 0} {F : FieldModel K} (L : LawfulField F) where
   -- the columns of a board of zeros
-  columns_zeros : (h v n : ℕ) (X : K) → columns F h v (replicate n (pos 0)) X ≡ replicate v F.zero
+  columns_zeros : (h v n : ℕ) (X : K) → columns_at F h v (replicate n (pos 0)) X ≡ replicate v F.zero
   columns_zeros h v n X =
       listed_cong 0 v _ (λ y. F.zero)
       (λ y a b.
@@ -68,7 +68,7 @@ module _ {K : Type 0} {F : FieldModel K} (L : LawfulField F) where
           kept = kept_start h v F.limit;
         }
 
-    module _ (rest : List K) (l : Ledger) (m : Move) (bank : List K) (allowed : grid_allowed h v ≡ true) (long : v ≤ length bank) (right : take v bank ≡ columns F h v l.counts r) (behind : drop v bank ≡ rest) (kept : Kept h v F.limit l) where
+    module _ (rest : List K) (l : Ledger) (m : Move) (bank : List K) (allowed : grid_allowed h v ≡ true) (long : v ≤ length bank) (right : take v bank ≡ columns_at F h v l.counts r) (behind : drop v bank ≡ rest) (kept : Kept h v F.limit l) where
       -- a note is answered as the ledger answers it
       answer_is : verifier_note_answer F (ledger_standing h v l) bank m ≡ ledger_answer h v F.limit l m
       answer_is = ap (λ b. cond b (Err BankShort) (ledger_answer h v F.limit l m)) (le-ltb (length bank) v long)

@@ -1,4 +1,4 @@
 pub mod Calls
-pub mod Granted
+pub mod Pointed
 pub mod Notes
 pub mod Judging

@@ -6,7 +6,7 @@ use Rattle.board.specs.Books.{new_standing, ledger_standing}
 use Rattle.board.specs.Standing.{Standing}
 use Rattle.board.specs.Ledger.{ledger, ledger_answers}
 use Rattle.field.specs.Field.{FieldModel}
-use Rattle.polynomial.specs.Columns.{columns}
+use Rattle.polynomial.specs.Columns.{columns_at}
 use Rattle.verifier.specs.Calls.{verifier_open_answer, verifier_open_bank, verifier_note_answer, verifier_note_standing, verifier_note_bank}
 
 -- a box with its bank
@@ -43,7 +43,7 @@ module _ {K : Type 0} (F : FieldModel K) where
 pub record VerifierFollowsLedger {K : Type 0} (F : FieldModel K) (h v : ℕ) (r : K) (bank : List K) (ms : List Move) : Type 0 where
   pub answers : verifier_answers F (verifier_opened F h v r bank) ms ≡ ledger_answers h v F.limit ms
   pub standing : (verifier_after F (verifier_opened F h v r bank) ms).standing ≡ ledger_standing h v (ledger h v F.limit ms)
-  pub sums : take v (verifier_after F (verifier_opened F h v r bank) ms).bank ≡ columns F h v (ledger h v F.limit ms).counts r
+  pub sums : take v (verifier_after F (verifier_opened F h v r bank) ms).bank ≡ columns_at F h v (ledger h v F.limit ms).counts r
   pub rest : drop v (verifier_after F (verifier_opened F h v r bank) ms).bank ≡ drop v bank
 
 -- at every point

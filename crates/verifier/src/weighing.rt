@@ -3,19 +3,19 @@ ghost use Rattle.std.specs.Prelude.{◌≡◌, suc, length};
 ghost use Rattle.polynomial.specs.Sums.{list_sum};
 ghost use Rattle.verifier.specs.Judging.{weighed};
 
-use refusal::Refusal;
 use field::Field;
 use polynomial::interpolate_at;
 use protocol::{Suited, claim_image};
 use question::Question;
+use refusal::Refusal;
 
-// Values, added in order. `polynomial::total` does the same; a rule of the project asks for the `for` here.
+// The values, added in order.
 fn sum_of<F: Field>(values: &[F]) -> F
     ensures { result ≡ list_sum F.Field.model values.now }
 {
     let mut sum = F::zero();
     for value in values {
-        sum = sum.sum(*value);
+        sum = sum + *value;
     }
     sum
 }
@@ -30,7 +30,9 @@ pub(crate) fn weigh<F: Field, Q: Question<F>>(
 ) -> Result<i64, Refusal>
     requires wide { length columns.now ≡ asked.now.grid.columns }
     requires whole { length values.now ≡ suc asked.now.degree }
-    ensures { result ≡ weighed F.Field.model asked.now.grid.rows asked.now.grid.columns point columns.now (Q.Question.meaning asked.now.question.now) claim values.now }
+    ensures { result
+        ≡ weighed F.Field.model asked.now.grid.rows asked.now.grid.columns point columns.now
+        (Q.Question.meaning asked.now.question.now) claim values.now }
 {
     let grid = asked.grid;
     let sum = sum_of(&values[..grid.rows as usize]);

@@ -1,0 +1,2 @@
+pub mod WorkedPromise
+pub mod Orders

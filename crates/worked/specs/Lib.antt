@@ -1,1 +1,4 @@
+pub mod Board
 pub mod Worked
+pub mod WorkedPromise
+pub mod Orders

@@ -8,41 +8,38 @@ use Rattle.board.specs.Grids.{grid_answer}
 use Rattle.board.specs.Ledger.{ledger, ledger_answers}
 use Rattle.field.specs.Field.{FieldModel}
 use Rattle.prime.specs.declared.residue.Residue.{Residue}
-use Rattle.extension.specs.declared.pair.Extension.{Extension}
+use Rattle.prime.specs.Residues.{value_of}
+use Rattle.extension.specs.declared.extension.Extension.{Extension}
 use Rattle.extension.specs.Pairs.{pair, quadratic}
-use Rattle.polynomial.specs.Columns.{columns}
+use Rattle.polynomial.specs.Columns.{columns_at}
 use Rattle.polynomial.specs.Interpolation.{node}
 use Rattle.question.specs.Question.{QuestionModel}
-use Rattle.question.specs.Cells.{range_question}
-use Rattle.question.specs.SquareSums.{squares_question}
+use Rattle.season.specs.Range.{range_question}
+use Rattle.season.specs.Squares.{squares_question}
 use Rattle.protocol.specs.Asking.{suit_answer, honest}
 use Rattle.host.specs.Answering.{Answered, honest_sheet, answered}
 use Rattle.verifier.specs.Calls.{verifier_open_answer}
 use Rattle.verifier.specs.Judging.{judged}
 use Rattle.verifier.specs.Notes.{verifier_opened, verifier_after}
-use Rattle.promise.specs.WorkedBoard.{residues, move, told}
+use Rattle.worked.specs.Board.{residues, move_at, worked_moves, text_line}
 
 -- the counts after the moves
-abbrev pub counts : List ℤ
-counts = (ledger 2 8 256 told).counts
+abbrev pub worked_counts : List ℤ
+worked_counts = (ledger 2 8 256 worked_moves).counts
 
 -- the bank of a box at a point that was told the moves, over a bank with one cell more than is needed
 abbrev pub bank_at : ℕ → List (Residue 65537)
-bank_at r = (verifier_after residues (verifier_opened residues 2 8 (node residues r) (replicate 9 residues.one)) told).bank
-
--- a line of text, and the lines behind it
-abbrev pub line : List ℕ → List ℕ → List ℕ
-line text more = text ++ (10 ∷ more)
+bank_at r = (verifier_after residues (verifier_opened residues 2 8 (node residues r) (replicate 9 residues.one)) worked_moves).bank
 
 -- the sheet for the squares with this claim and these three values
 abbrev pub sheet_of : List ℕ → List ℕ → List ℕ → List ℕ → List ℕ
 sheet_of claim a b c =
-    line (codes "(sheet 65537 1 (grid 2 8))") (line (codes "(claim (4 0 0) " ++ (claim ++ codes ")"))
-    (line (codes "(at 0 (" ++ (a ++ codes " 0))")) (line (codes "(at 1 (" ++ (b ++ codes " 0))")) (line (codes "(at 2 (" ++ (c ++ codes " 0))")) (line (codes "(end)") [])))))
+    text_line (codes "(sheet 65537 1 (grid 2 8))") (text_line (codes "(claim (4 0 0) " ++ (claim ++ codes ")"))
+    (text_line (codes "(at 0 (" ++ (a ++ codes " 0))")) (text_line (codes "(at 1 (" ++ (b ++ codes " 0))")) (text_line (codes "(at 2 (" ++ (c ++ codes " 0))")) (text_line (codes "(end)") [])))))
 
 -- what the box at a point finds of such a sheet
-abbrev pub found : ℕ → List ℕ → Result ℤ Refusal
-found r sheet = (judged residues 2 8 (node residues r) (bank_at r) (squares_question residues) sheet (replicate 3 residues.one)).answer
+abbrev pub box_answer : ℕ → List ℕ → Result ℤ Refusal
+box_answer r sheet = (judged residues 2 8 (node residues r) (bank_at r) (squares_question residues) sheet (replicate 3 residues.one)).answer
 
 -- the quadratic extension, with t × t = 3
 abbrev pub extended : FieldModel (Extension (Residue 65537))
@@ -54,7 +51,7 @@ t = pair residues.zero residues.one
 
 -- the rule for the squares at t, on the columns there
 abbrev pub squares_at_t : Extension (Residue 65537)
-squares_at_t = (squares_question extended).rule 2 8 t (columns extended 2 8 counts t)
+squares_at_t = (squares_question extended).rule 2 8 t (columns_at extended 2 8 worked_counts t)
 
 -- an answer, with its refusal's number
 abbrev pub numbered : {A : Type 0} → Result A Refusal → Result A ℕ
@@ -62,13 +59,13 @@ numbered (Ok x) = Ok x
 numbered (Err r) = Err (number_of r)
 
 -- the tray of four elements that the box at 5 leaves
-abbrev pub left : List ℕ → List ℕ
-left sheet = map (λ x. x.value) (judged residues 2 8 (node residues 5) (bank_at 5) (squares_question residues) sheet (replicate 4 residues.one)).tray
+abbrev pub box_tray : List ℕ → List ℕ
+box_tray sheet = map value_of (judged residues 2 8 (node residues 5) (bank_at 5) (squares_question residues) sheet (replicate 4 residues.one)).tray
 
 -- the honest sheet for the squares, but for its first, its second and its fourth line
 abbrev pub sheet_with : List ℕ → List ℕ → List ℕ → List ℕ
 sheet_with first second fourth =
-    line first (line second (line (codes "(at 0 (9 0))") (line fourth (line (codes "(at 2 (17 0))") (line (codes "(end)") [])))))
+    text_line first (text_line second (text_line (codes "(at 0 (9 0))") (text_line fourth (text_line (codes "(at 2 (17 0))") (text_line (codes "(end)") [])))))
 
 -- what the box at 5 answers over the first n cells of its bank, with a tray of m ones; a refusal by its number
 abbrev pub judged_in : ℕ → QuestionModel (Residue 65537) → List ℕ → ℕ → Result ℤ ℕ
@@ -76,7 +73,7 @@ judged_in n q sheet m = numbered (judged residues 2 8 (node residues 5) (take n 
 
 -- what the host answers for the squares and leaves, with a tray of m ones and a paper of n zeros
 abbrev pub answered_in : ℕ → ℕ → Answered (Residue 65537)
-answered_in m n = answered residues 2 8 counts (squares_question residues) (replicate m residues.one) (replicate n 0)
+answered_in m n = answered residues 2 8 worked_counts (squares_question residues) (replicate m residues.one) (replicate n 0)
 
 -- grids, moves and questions
 pub record GameCases : Type 0 where
@@ -89,37 +86,37 @@ pub record GameCases : Type 0 where
   pub uneven : numbered (grid_answer 2 12) ≡ Err 10
   pub columns_over : numbered (grid_answer 2 1032) ≡ Err 10
   -- the weight may reach the limit; cells end at 15, and come before the amount, which is from −256 to 256 and not 0
-  pub full : map numbered (ledger_answers 2 8 256 (move 0 (pos 256) ∷ move 0 (pos 1) ∷ [])) ≡ Ok tt ∷ Err 3 ∷ []
-  pub cell_first : map numbered (ledger_answers 2 8 256 (move 16 (pos 257) ∷ move 0 (pos 257) ∷ move 0 (pos 0) ∷ [])) ≡ Err 1 ∷ Err 2 ∷ Err 2 ∷ []
-  pub below_zero : map numbered (ledger_answers 2 8 256 (move 0 (negsuc 256) ∷ move 15 (negsuc 255) ∷ [])) ≡ Err 2 ∷ Ok tt ∷ []
+  pub full : map numbered (ledger_answers 2 8 256 (move_at 0 (pos 256) ∷ move_at 0 (pos 1) ∷ [])) ≡ Ok tt ∷ Err 3 ∷ []
+  pub cell_first : map numbered (ledger_answers 2 8 256 (move_at 16 (pos 257) ∷ move_at 0 (pos 257) ∷ move_at 0 (pos 0) ∷ [])) ≡ Err 1 ∷ Err 2 ∷ Err 2 ∷ []
+  pub below_zero : map numbered (ledger_answers 2 8 256 (move_at 0 (negsuc 256) ∷ move_at 15 (negsuc 255) ∷ [])) ≡ Err 2 ∷ Ok tt ∷ []
   -- a range from a cell to one before it
   pub backward : numbered (suit_answer (range_question residues 9 8) 2 8) ≡ Err 20
 
 -- sheets: their spelling, their refusals, and what these leave
 pub record SheetCases : Type 0 where
   -- the host's spelling
-  pub sheet : honest_sheet residues 2 8 (squares_question residues) counts ≡ sheet_of (codes "14") (codes "9") (codes "5") (codes "17")
+  pub sheet : honest_sheet residues 2 8 (squares_question residues) worked_counts ≡ sheet_of (codes "14") (codes "9") (codes "5") (codes "17")
   -- the numbers of refusals and faults
   pub refusals : map number_of (CellOutside ∷ AmountOutside ∷ TooHeavy ∷ GridOutside ∷ BankShort ∷ CountOutside ∷ QuestionUnfit ∷ TrayShort ∷ PaperShort ∷ SumWrong ∷ PointWrong ∷ []) ≡ 1 ∷ 2 ∷ 3 ∷ 10 ∷ 12 ∷ 13 ∷ 20 ∷ 21 ∷ 22 ∷ 50 ∷ 51 ∷ []
   pub faults : map fault_number (fault.Malformed ∷ fault.Unexpected ∷ fault.Field ∷ fault.Grid ∷ fault.Tag ∷ fault.Claim ∷ fault.Index ∷ fault.Part ∷ []) ≡ 30 ∷ 31 ∷ 40 ∷ 41 ∷ 42 ∷ 43 ∷ 44 ∷ 45 ∷ []
-  pub number_51 : numbered (found 5 (sheet_of (codes "13") (codes "9") (codes "4") (codes "17"))) ≡ Err 51
-  pub number_50 : numbered (found 5 (sheet_of (codes "13") (codes "9") (codes "5") (codes "17"))) ≡ Err 50
+  pub number_51 : numbered (box_answer 5 (sheet_of (codes "13") (codes "9") (codes "4") (codes "17"))) ≡ Err 51
+  pub number_50 : numbered (box_answer 5 (sheet_of (codes "13") (codes "9") (codes "5") (codes "17"))) ≡ Err 50
   -- a sheet that fails both tests is refused by the first
-  pub sum_first : numbered (found 5 (sheet_of (codes "13") (codes "9") (codes "5") (codes "18"))) ≡ Err 50
-  pub number_43 : numbered (found 5 (sheet_of (codes "65551") (codes "9") (codes "5") (codes "17"))) ≡ Err 43
+  pub sum_first : numbered (box_answer 5 (sheet_of (codes "13") (codes "9") (codes "5") (codes "18"))) ≡ Err 50
+  pub number_43 : numbered (box_answer 5 (sheet_of (codes "65551") (codes "9") (codes "5") (codes "17"))) ≡ Err 43
   -- lines and places
-  pub empty : found 5 [] ≡ Err (Sheet fault.Unexpected 1 0)
-  pub malformed : found 5 (sheet_of (codes "00000000014") (codes "9") (codes "5") (codes "17")) ≡ Err (Sheet fault.Malformed 2 42)
-  pub wrong_field : found 5 (sheet_with (codes "(sheet 65539 1 (grid 2 8))") (codes "(claim (4 0 0) 14)") (codes "(at 1 (5 0))")) ≡ Err (Sheet fault.Field 1 7)
-  pub wrong_grid : found 5 (sheet_with (codes "(sheet 65537 1 (grid 2 16))") (codes "(claim (4 0 0) 14)") (codes "(at 1 (5 0))")) ≡ Err (Sheet fault.Grid 1 23)
-  pub wrong_tag : found 5 (sheet_with (codes "(sheet 65537 1 (grid 2 8))") (codes "(claim (5 0 0) 14)") (codes "(at 1 (5 0))")) ≡ Err (Sheet fault.Tag 2 35)
-  pub wrong_index : found 5 (sheet_with (codes "(sheet 65537 1 (grid 2 8))") (codes "(claim (4 0 0) 14)") (codes "(at 2 (5 0))")) ≡ Err (Sheet fault.Index 4 63)
-  pub wrong_part : found 5 (sheet_of (codes "14") (codes "65537") (codes "5") (codes "17")) ≡ Err (Sheet fault.Part 3 53)
+  pub empty : box_answer 5 [] ≡ Err (Sheet fault.Unexpected 1 0)
+  pub malformed : box_answer 5 (sheet_of (codes "00000000014") (codes "9") (codes "5") (codes "17")) ≡ Err (Sheet fault.Malformed 2 42)
+  pub wrong_field : box_answer 5 (sheet_with (codes "(sheet 65539 1 (grid 2 8))") (codes "(claim (4 0 0) 14)") (codes "(at 1 (5 0))")) ≡ Err (Sheet fault.Field 1 7)
+  pub wrong_grid : box_answer 5 (sheet_with (codes "(sheet 65537 1 (grid 2 16))") (codes "(claim (4 0 0) 14)") (codes "(at 1 (5 0))")) ≡ Err (Sheet fault.Grid 1 23)
+  pub wrong_tag : box_answer 5 (sheet_with (codes "(sheet 65537 1 (grid 2 8))") (codes "(claim (5 0 0) 14)") (codes "(at 1 (5 0))")) ≡ Err (Sheet fault.Tag 2 35)
+  pub wrong_index : box_answer 5 (sheet_with (codes "(sheet 65537 1 (grid 2 8))") (codes "(claim (4 0 0) 14)") (codes "(at 2 (5 0))")) ≡ Err (Sheet fault.Index 4 63)
+  pub wrong_part : box_answer 5 (sheet_of (codes "14") (codes "65537") (codes "5") (codes "17")) ≡ Err (Sheet fault.Part 3 53)
   -- the tray afterwards: the values, or zeros, and the fourth element as it was
-  pub left_accepted : left (sheet_of (codes "14") (codes "9") (codes "5") (codes "17")) ≡ 9 ∷ 5 ∷ 17 ∷ 1 ∷ []
-  pub left_51 : left (sheet_of (codes "13") (codes "9") (codes "4") (codes "17")) ≡ 0 ∷ 0 ∷ 0 ∷ 1 ∷ []
-  pub left_50 : left (sheet_of (codes "13") (codes "9") (codes "5") (codes "17")) ≡ 0 ∷ 0 ∷ 0 ∷ 1 ∷ []
-  pub left_31 : left [] ≡ 0 ∷ 0 ∷ 0 ∷ 1 ∷ []
+  pub left_accepted : box_tray (sheet_of (codes "14") (codes "9") (codes "5") (codes "17")) ≡ 9 ∷ 5 ∷ 17 ∷ 1 ∷ []
+  pub left_51 : box_tray (sheet_of (codes "13") (codes "9") (codes "4") (codes "17")) ≡ 0 ∷ 0 ∷ 0 ∷ 1 ∷ []
+  pub left_50 : box_tray (sheet_of (codes "13") (codes "9") (codes "5") (codes "17")) ≡ 0 ∷ 0 ∷ 0 ∷ 1 ∷ []
+  pub left_31 : box_tray [] ≡ 0 ∷ 0 ∷ 0 ∷ 1 ∷ []
 
 -- memory that is lent: how much is enough, and the host's tray
 pub record MemoryCases : Type 0 where
@@ -137,23 +134,23 @@ pub record MemoryCases : Type 0 where
   pub tray_of_11 : numbered (answered_in 11 9216).answer ≡ Ok (pos 14, 92)
   pub paper_of_9215 : numbered (answered_in 11 9215).answer ≡ Err 22
   -- the honest values, then the columns at 2, and the twelfth element as it was
-  pub host_tray : map (λ x. x.value) (answered_in 12 9216).tray ≡ 9 ∷ 5 ∷ 17 ∷ 65536 ∷ 65533 ∷ 0 ∷ 0 ∷ 0 ∷ 0 ∷ 0 ∷ 0 ∷ 1 ∷ []
+  pub host_tray : map value_of (answered_in 12 9216).tray ≡ 9 ∷ 5 ∷ 17 ∷ 65536 ∷ 65533 ∷ 0 ∷ 0 ∷ 0 ∷ 0 ∷ 0 ∷ 0 ∷ 1 ∷ []
 
 -- the cases, all of the definitions that the contracts of the calls cite
 pub record WorkedCases : Type 0 where
-  pub weight : (ledger 2 8 256 told).weight ≡ 6
-  pub number : (ledger 2 8 256 told).number ≡ 3
-  pub bank_at_five : map (λ x. x.value) (bank_at 5) ≡ 65530 ∷ 65527 ∷ 0 ∷ 0 ∷ 0 ∷ 0 ∷ 0 ∷ 0 ∷ 1 ∷ []
-  pub squares : map (λ x. x.value) (honest residues 2 8 (squares_question residues) counts) ≡ 9 ∷ 5 ∷ 17 ∷ []
-  pub squares_count : (squares_question residues).tally 2 8 counts ≡ pos 14
-  pub range : map (λ x. x.value) (honest residues 2 8 (range_question residues 8 9) counts) ≡ 0 ∷ 65536 ∷ 65527 ∷ []
-  pub range_count : (range_question residues 8 9).tally 2 8 counts ≡ negsuc 0
-  pub true_at_five : found 5 (sheet_of (codes "14") (codes "9") (codes "5") (codes "17")) ≡ Ok (pos 14)
-  pub false_at_zero : found 0 (sheet_of (codes "13") (codes "9") (codes "4") (codes "17")) ≡ Ok (pos 13)
-  pub false_at_two : found 2 (sheet_of (codes "13") (codes "9") (codes "4") (codes "17")) ≡ Ok (pos 13)
-  pub false_at_five : found 5 (sheet_of (codes "13") (codes "9") (codes "4") (codes "17")) ≡ Err PointWrong
-  pub wrong_sum : found 5 (sheet_of (codes "13") (codes "9") (codes "5") (codes "17")) ≡ Err SumWrong
-  pub not_modulo : found 5 (sheet_of (codes "65551") (codes "9") (codes "5") (codes "17")) ≡ Err (Sheet fault.Claim 2 42)
+  pub weight : (ledger 2 8 256 worked_moves).weight ≡ 6
+  pub number : (ledger 2 8 256 worked_moves).number ≡ 3
+  pub bank_at_five : map value_of (bank_at 5) ≡ 65530 ∷ 65527 ∷ 0 ∷ 0 ∷ 0 ∷ 0 ∷ 0 ∷ 0 ∷ 1 ∷ []
+  pub squares : map value_of (honest residues 2 8 (squares_question residues) worked_counts) ≡ 9 ∷ 5 ∷ 17 ∷ []
+  pub squares_count : (squares_question residues).tally 2 8 worked_counts ≡ pos 14
+  pub range : map value_of (honest residues 2 8 (range_question residues 8 9) worked_counts) ≡ 0 ∷ 65536 ∷ 65527 ∷ []
+  pub range_count : (range_question residues 8 9).tally 2 8 worked_counts ≡ negsuc 0
+  pub true_at_five : box_answer 5 (sheet_of (codes "14") (codes "9") (codes "5") (codes "17")) ≡ Ok (pos 14)
+  pub false_at_zero : box_answer 0 (sheet_of (codes "13") (codes "9") (codes "4") (codes "17")) ≡ Ok (pos 13)
+  pub false_at_two : box_answer 2 (sheet_of (codes "13") (codes "9") (codes "4") (codes "17")) ≡ Ok (pos 13)
+  pub false_at_five : box_answer 5 (sheet_of (codes "13") (codes "9") (codes "4") (codes "17")) ≡ Err PointWrong
+  pub wrong_sum : box_answer 5 (sheet_of (codes "13") (codes "9") (codes "5") (codes "17")) ≡ Err SumWrong
+  pub not_modulo : box_answer 5 (sheet_of (codes "65551") (codes "9") (codes "5") (codes "17")) ≡ Err (Sheet fault.Claim 2 42)
   pub low_at_t : extended.low squares_at_t ≡ 33
   pub high_at_t : extended.high squares_at_t ≡ 65525
   pub game : GameCases

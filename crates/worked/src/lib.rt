@@ -1,9 +1,32 @@
-// One board, worked out.
+//! One board, worked out: what the definitions give on it, and what the promise comes to there;
+//! and that the contract of a trial can be met.
 #![tactic(auto)]
 
+ghost use Rattle.worked.specs.Orders.{OrdersMet};
 ghost use Rattle.worked.specs.Worked.{WorkedCases};
+ghost use Rattle.worked.specs.WorkedPromise.{BoundReached, WorkedPromise};
 
-// The definitions give the numbers of the worked board.
+use field::Field;
+
+/// The definitions give the numbers of the worked board.
 pub fn worked_cases()
     ensures { WorkedCases }
+{}
+
+/// The promise's bound is reached: a sheet with a false claim and the bound 2 is accepted at two points.
+#[tactic(auto, using(crate::proofs::WorkedPromise::bound_reached))]
+pub fn bound_is_reached()
+    ensures { BoundReached }
+{}
+
+/// What the promise comes to on the board: the sheet's two points are all that it has, two false sheets together are accepted at no
+/// more than four points, and an honest host's count is accepted at every point.
+#[tactic(auto, using(crate::proofs::WorkedPromise::worked_promise))]
+pub fn promise_on_the_worked_board()
+    ensures { WorkedPromise }
+{}
+
+/// On every allowed grid, at every point and for all moves there is a trial of the squares in order, with just the memory that is wanted.
+pub fn trials_in_order_exist<F: Field>()
+    ensures { OrdersMet F.Field.model }
 {}

@@ -15,7 +15,7 @@ loop-x-init g c =
     let X = c.args.point in
     let n = length c.args.sums.now in
     let all = c.fill_cells.ensures ∙ filled_whole c.zero.result c.args.sums.now ∙ ap₂ replicate c.requires c.zero.ensures in
-    (omega (arith, c.rows-rows.ensures), ap length all ∙ length-replicate v F.zero, all ∙ columns_none F h v fs X ∙ ap (columns_from F h v fs X) (sym c.rows-rows.ensures))
+    (omega arith, ap length all ∙ length-replicate v F.zero, all ∙ columns_none F h v fs X)
 
 pub loop-x-preserved : goal.loop-x-preserved
 loop-x-preserved g c =
@@ -30,6 +30,5 @@ loop-x-preserved g c =
     let before = c.loop-x.invariant.2 ∙ ap (columns_from F h v fs X) s in
     let long : length row ≡ v = ap length (sym c.row.ensures.row) ∙ c.row.ensures.length in
     let more = columns_more F h v fs X x row (omega (arith, c.loop-x.invariant.0)) (omega (arith, long)) (λ y b. row_at fs (x * v) v y b) in
-    let weight : c.basis_at.result ≡ chi F h x X = c.basis_at.ensures ∙ ap (λ n. chi F n x X) c.rows-rows.ensures in
-    let now-is = c.add_row.ensures ∙ ap₂ (λ b cs. added_row F b cs c.row.result.now) weight before ∙ ap (added_row F (chi F h x X) (columns_from F h v fs X (suc x))) c.row.ensures.row ∙ more in
+    let now-is = c.add_row.ensures ∙ ap₂ (λ b cs. added_row F b cs c.row.result.now) c.basis_at.ensures before ∙ ap (added_row F (chi F h x X) (columns_from F h v fs X (suc x))) c.row.ensures.row ∙ more in
     (omega (arith, c.loop-x.invariant.0), ap length now-is ∙ length-listed 0 v _, now-is)

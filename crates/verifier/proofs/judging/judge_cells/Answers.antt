@@ -1,4 +1,4 @@
-use Rattle.std.proofs.Common.{◌≡◌, cond, refl, to_z, of_z, suc, take, is_err, Err, sym, ap, ◌∙◌, ap₂, arith, w64, SFits, rules}
+use Rattle.std.proofs.Common.{◌≡◌, cond, refl, to_z, of_z, suc, take, is_err, Err, sym, ap, ◌∙◌, ap₂, w64, SFits, rules}
 use Rattle.std.proofs.lemmas.Int.{to_z-of_z}
 use Rattle.std.proofs.lemmas.Result.{err_from_is_err_and}
 use Rattle.board.specs.Banks.{filled}
@@ -19,7 +19,7 @@ returns-in_err-claim g c =
     let sheet = c.args.sheet.now in
     let tray = c.args.tray.now in
     let bank = c.args.bank.now.cells.now in
-    let front = front_read v _ bank c.in_ok-columns.columns.now (omega (arith, c.columns.ensures)) c.in_ok-columns.ensures.cells c.in_ok-columns.ensures.length in
+    let front = front_read v _ bank c.in_ok-columns.columns.now refl c.in_ok-columns.ensures.cells c.in_ok-columns.ensures.length in
     let terms : c.terms.result ≡ terms_of q h v = c.terms.ensures ∙ ap₂ (λ p k. terms_of p k.rows k.columns) (ap g.Q.Question.meaning c.in_ok-asked.ensures.question) c.in_ok-asked.ensures.grid in
     let p = err_from_is_err_and c.from_residual-in_err-claim.result c.from_residual-in_err-claim.ensures.1 in
     let a = c.in_err-claim.ensures in
@@ -39,7 +39,7 @@ returns g c =
     let asked = c.in_ok-asked.asked in
     let claim = c.in_ok-claim.claim in
     let after = c.read_sheet.new.tray in
-    let front = front_read v _ cells c.in_ok-columns.columns.now (omega (arith, c.columns.ensures)) c.in_ok-columns.ensures.cells c.in_ok-columns.ensures.length in
+    let front = front_read v _ cells c.in_ok-columns.columns.now refl c.in_ok-columns.ensures.cells c.in_ok-columns.ensures.length in
     let same = ap g.Q.Question.meaning c.in_ok-asked.ensures.question in
     let grid = c.in_ok-asked.ensures.grid in
     let terms : c.terms.result ≡ terms_of q h v = c.terms.ensures ∙ ap₂ (λ p k. terms_of p k.rows k.columns) same grid in

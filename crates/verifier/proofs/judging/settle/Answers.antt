@@ -7,5 +7,5 @@ pub returns-then-is_err-clause-answer : goal.returns-then-is_err-clause-answer
 returns-then-is_err-clause-answer g c =
     let asked = c.args.asked.now in
     let count : asked.degree + 1 ≡ suc asked.degree = omega arith in
-    c.weigh-found.ensures
+    c.weigh-answer.ensures
     ∙ ap₂ (λ z n. weighed g.F.Field.model asked.grid.rows asked.grid.columns c.args.point c.args.columns.now (g.Q.Question.meaning asked.question.now) z (take n c.args.tray.now)) (to_z-of_z w64 c.args.claim c.ranges.claim) count

@@ -1,11 +1,10 @@
 // This season's questions on a worked board, answered by a host.
-use crate::moves::MOVES;
+use crate::cases::MOVES;
 use board::Bank;
-use refusal::Refusal;
-use extension::Extension;
 use field::Field;
-use prime::Mod65537;
+use fields::{Mod65537, Mod65537x2};
 use question::Question;
+use refusal::Refusal;
 use season::{Cell, Goods, Range, Season, Squares};
 use std::process::Abort;
 use std::test::Fail;
@@ -91,7 +90,7 @@ fn buffers_just_long_enough(rt: HostRuntime) -> Result<(), Fail> {
 // In the extension of 65,537 at t, the columns of the board are 3 − 2 t and −2 t.
 #[test]
 fn squares_rule_at_t(rt: HostRuntime) -> Result<(), Fail> {
-    let t: Extension<Mod65537> = Field::of_parts(0, 1);
+    let t: Mod65537x2 = Field::of_parts(0, 1);
     let mut sums = [Field::zero(); 8];
     let mut sums = Bank::new(&mut sums);
     let mut verifier = verifier::Listening::open(2, 8, t, &mut sums)?;

@@ -1,10 +1,9 @@
 // Sheets for the squares on a worked board, whose true count is 14, judged at several points.
-use crate::moves::MOVES;
+use crate::cases::MOVES;
 use board::Bank;
-use refusal::{Fault, Refusal};
-use extension::Extension;
 use field::Field;
-use prime::{Mersenne31, Mod65537};
+use fields::{Mersenne31, Mod65537, Mod65537x2};
+use refusal::{Fault, Refusal};
 use season::Squares;
 use std::process::Abort;
 use std::test::Fail;
@@ -122,7 +121,7 @@ fn worked_sheets_over_other_fields(rt: HostRuntime) -> Result<(), Fail> {
             ),
         ],
     )?;
-    let t: Extension<Mod65537> = Field::of_parts(0, 1);
+    let t: Mod65537x2 = Field::of_parts(0, 1);
     check_cases(
         &rt,
         2,

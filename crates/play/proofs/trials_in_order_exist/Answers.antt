@@ -1,5 +1,0 @@
-use Rattle.play.proofs.Adequacy.{orders_met}
-use Rattle.play.proofs.trials_in_order_exist.Goals as goal
-
-pub returns : goal.returns
-returns g c = orders_met g.met.F.Field.lawful
