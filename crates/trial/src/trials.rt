@@ -3,10 +3,10 @@ use crate::boxes::SQUARES;
 use crate::element::Shown;
 use crate::field_words::FieldWords;
 use crate::verdict::Verdict;
-use board::{Bank, Move};
+use board::Move;
 use field::Field;
 use fields::{FieldTask, NamedField};
-use play::play_trial;
+use play::{Memory, play_trial};
 use season::Squares;
 use writer::ENOUGH_PAPER;
 
@@ -56,17 +56,13 @@ impl<'a, R: Print + AllocGlobal> FieldTask for Trial<'a, R> {
         let mut sums = vec![in heap; F::zero(); 8]?;
         let mut tray = vec![in heap; F::zero(); 11]?;
         let mut paper = vec![in heap; 0u8; ENOUGH_PAPER]?;
-        let found = play_trial(
-            2,
-            8,
-            point,
-            &MOVES,
-            &Squares,
-            &mut Bank::new(&mut counts),
-            &mut Bank::new(sums.as_mut_slice()),
-            tray.as_mut_slice(),
-            paper.as_mut_slice(),
-        );
+        let mut memory = Memory {
+            counts: &mut counts,
+            sums: sums.as_mut_slice(),
+            tray: tray.as_mut_slice(),
+            paper: paper.as_mut_slice(),
+        };
+        let found = play_trial(2, 8, point, &MOVES, &Squares, &mut memory);
         let truth = SQUARES;
         let points = u64::from(F::CHARACTERISTIC).saturating_pow(F::DEGREE);
         println!(self.rt;
