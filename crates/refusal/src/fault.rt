@@ -44,14 +44,16 @@ impl fmt::Display for Fault {
 
     fn fmt<W: fmt::Write>(&self, f: &mut fmt::Formatter<W>) -> fmt::Result {
         f.write_str(match self {
-            Fault::Malformed => "a run that is neither a word of 1 to 8 letters nor a number of 1 to 10 digits",
+            Fault::Malformed =>
+                "a run that is neither a word of 1 to 8 letters nor a number of 1 to 10 digits",
             Fault::Unexpected => "a token, or the sheet's end, where the grammar has another",
             Fault::Field => "the characteristic or the degree is not the field's",
             Fault::Grid => "the rows or the columns are not the grid's",
             Fault::Tag => "a number of the tag is not the question's",
             Fault::Claim => "the claim is outside the question's least to greatest claim",
             Fault::Index => "the value line is not the next one",
-            Fault::Part => "a part of a value is not from 0 to p - 1, or a high part is not 0 where e is 1",
+            Fault::Part =>
+                "a part of a value is not from 0 to p - 1, or a high part is not 0 where e is 1",
         })
     }
 }

@@ -93,7 +93,9 @@ impl fmt::Display for Refusal {
             Refusal::CountOutside => f.write_str(
                 "a count, or the absolute counts together, are beyond the field's limit",
             ),
-            Refusal::QuestionUnfit => f.write_str("the question does not fit the grid, or its degree is not from h - 1 to 252"),
+            Refusal::QuestionUnfit => f.write_str(
+                "the question does not fit the grid, or its degree is not from h - 1 to 252",
+            ),
             Refusal::TrayShort => f.write_str("the tray has too few elements"),
             Refusal::PaperShort => f.write_str("the paper is too short"),
             Refusal::Sheet { fault, line, place } => {

@@ -1,7 +1,7 @@
 #!/usr/bin/env python3
 """Gives the repository's own definitions and lemmas the spelling of today's library.
 
-usage: python3 tools/respell.py        at the top of the repository, once, after the toolchain's own porting script
+usage: python3 docs/history/respell.py        at the top of the repository, once, after the toolchain's own porting script
 
 `respell.txt` beside this file has a line for each name that is turned here: the old one, the new one. (The porting script
 had turned those already that the library spelled alike.) Functions and definitions that were in

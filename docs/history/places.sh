@@ -1,7 +1,7 @@
 #!/bin/sh
-# Counts the places in src/ that docs/DESIGN-PASS.md speaks of: one line for each search, with the lines it finds.
-# Usage: tools/places.sh [-v NAME]; with -v NAME it shows the lines of one search.
-cd "$(dirname "$0")/.." || exit 1
+# Counts the places in src/ that docs/history/DESIGN-PASS.md speaks of: one line for each search, with the lines it finds.
+# Usage: docs/history/places.sh [-v NAME]; with -v NAME it shows the lines of one search.
+cd "$(dirname "$0")/../.." || exit 1
 src=$(git ls-files 'crates/*/src/*.rt')
 find_places() {
     case $1 in
