@@ -79,3 +79,11 @@ module _ {K : Type 0} (F : FieldModel K) (h v : ℕ) (ms : List Move) where
     pub rest : drop bytes given.paper ≡ drop bytes paper
     pub reads : reading_under F q h v (take bytes given.paper) ≡ Ok (true_count F h v ms q, honest F h v q (ledger h v F.limit ms).counts)
     pub accepted : (r : K) (box : SealedVerifier r) (tray' : List K) → suc (q.degree h) ≤ length tray' → (verifier_gives box q (take bytes given.paper) tray').answer ≡ Ok (true_count F h v ms q)
+
+  -- a sheet that an honest host gave for a question
+  pub record HonestSheet (q : QuestionModel K) (sheet : List ℕ) : Type 0 where
+    pub tray : List K
+    pub paper : List ℕ
+    pub given : Answered K
+    pub honest : HonestAnswer q tray paper given
+    pub written : sheet ≡ take honest.bytes given.paper
