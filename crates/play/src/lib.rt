@@ -12,8 +12,8 @@ use field::Field;
 pub use memory::Memory;
 pub use trial::{exchange, play_trial};
 
-/// A granted open, moves and a seal lead, in the promise's runs, to the ends that a trial's contract names.
-#[tactic(auto, using(crate::proofs::Adequacy::runs_are_calls))]
+/// Each step in the promise's runs is a call, with what its contract says that it answers and leaves; and a granted open, moves and a
+/// seal lead to the ends that a trial's contract names.
 pub fn runs_are_calls<F: Field>()
     ensures { RunsAreCalls F.Field.model }
 {}
