@@ -5,11 +5,15 @@
 ghost use Rattle.play.specs.Adequacy.{RunsAreCalls};
 
 mod memory;
+mod played;
 mod telling;
+mod told;
 mod trial;
 
 use field::Field;
 pub use memory::Memory;
+pub use played::Played;
+pub use told::Told;
 pub use trial::{exchange, play_trial};
 
 /// Each step in the promise's runs is a call, with what its contract says that it answers and leaves; and a granted open, moves and a
