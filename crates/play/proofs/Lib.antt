@@ -1,2 +1,4 @@
 pub mod Adequacy
 pub mod Honest
+pub mod Tellings
+pub mod Outcomes

@@ -24,7 +24,16 @@ pub record Trial (K : Type 0) : Type 0 where
   pub answer : Result ℤ Refusal
   pub memory : Contents K
 
+-- the first refusal of two calls
+abbrev pub both_granted : Result (Unit {0}) Refusal → Result (Unit {0}) Refusal → Result (Unit {0}) Refusal
+both_granted (Ok u) second = second
+both_granted (Err e) second = Err e
+
 module _ {K : Type 0} (F : FieldModel K) where
+  -- whether both ends are opened: the host's refusal comes before the box's
+  abbrev pub ends_opened : ℕ → ℕ → Contents K → Result (Unit {0}) Refusal
+  ends_opened h v m = both_granted (host_open_answer h v m.counts) (verifier_open_answer F h v m.sums)
+
   -- what the box finds of a sheet on the paper
   abbrev pub judged_paper : Contents K → List ℕ → Judgement K → Trial K
   judged_paper m paper j = record { answer = j.answer; memory = record m { tray = j.tray; paper = paper } }

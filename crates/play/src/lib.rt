@@ -5,15 +5,19 @@
 ghost use Rattle.play.specs.Adequacy.{RunsAreCalls};
 
 mod memory;
+mod played;
 mod telling;
+mod told;
 mod trial;
 
 use field::Field;
 pub use memory::Memory;
+pub use played::Played;
+pub use told::Told;
 pub use trial::{exchange, play_trial};
 
-/// A granted open, moves and a seal lead, in the promise's runs, to the ends that a trial's contract names.
-#[tactic(auto, using(crate::proofs::Adequacy::runs_are_calls))]
+/// Each step in the promise's runs is a call, with what its contract says that it answers and leaves; and a granted open, moves and a
+/// seal lead to the ends that a trial's contract names.
 pub fn runs_are_calls<F: Field>()
     ensures { RunsAreCalls F.Field.model }
 {}

@@ -6,6 +6,7 @@ use Rattle.board.specs.declared.moves.Move.{Move}
 use Rattle.board.specs.Grids.{grid_allowed}
 use Rattle.board.specs.Ledger.{ledger}
 use Rattle.question.specs.Question.{Fits}
+use Rattle.protocol.specs.Asking.{reading_under}
 use Rattle.host.specs.Answering.{answered, honest_sheet}
 use Rattle.host.specs.Notes.{HostState}
 use Rattle.verifier.specs.Judging.{judged}
@@ -15,7 +16,7 @@ use Rattle.promise.specs.Sealed.{SealedHost, host_gives}
 use Rattle.promise.specs.Promise.{HonestAccepted}
 use Rattle.promise.proofs.Runs.{ran_at}
 use Rattle.promise.proofs.Ends.{HostStands, host_keeps}
-use Rattle.promise.proofs.Judgements.{honest_short, honest_accepted}
+use Rattle.promise.proofs.Judgements.{honest_read, honest_short, honest_accepted}
 use Rattle.promise.proofs.Answers.{answer_granted}
 use Rattle.promise.proofs.Boxes.{counts_of, within, settled}
 
@@ -47,15 +48,17 @@ module _ {K : Type 0} (F : FieldModel K) where
       let n = length sheet in
       let given = k.answers (record { question = q; tray = tray; paper = paper }) ∙ answer_granted L q Q h v fit fs w k.bank k.long k.right tray t paper p in
       let left = ap (λ z. z.paper) given in
+      let whole = ap (take n) left ∙ take_at sheet (drop n paper) n refl in
       record {
         bytes = n;
         answer = ap (λ z. z.answer) given;
         inside = omega (arith, honest_short L q Q h v fit fs w);
         values = ap (λ z. z.tray) given;
         rest = ap (drop n) left ∙ drop_at sheet (drop n paper) n refl;
+        reads = ap (reading_under F q h v) whole ∙ honest_read L q Q h v fit fs w;
         accepted = λ r box tray' t'.
             let z = (settled L h v ms r box).holds in
             ap (λ j. j.answer) (z.judges (record { question = q; sheet = take n (host_gives F h v ms run q tray paper).paper; tray = tray' }))
-            ∙ ap (λ bs. (judged F h v r z.bank q bs tray').answer) (ap (take n) left ∙ take_at sheet (drop n paper) n refl)
+            ∙ ap (λ bs. (judged F h v r z.bank q bs tray').answer) whole
             ∙ honest_accepted L q Q h v fit fs w r z.bank z.long z.right tray' t';
       }

@@ -100,7 +100,7 @@ module _ {K : Type 0} {F : FieldModel K} (L : LawfulField F) where
       tally_range = claim_range L q Q h v fit (q.tally h v fs) (Q.tally_least h v fit fs w) (Q.tally_most h v fit fs w)
 
       -- the honest sheet is read back
-      honest_read : reading_under F q h v (honest_sheet F h v q fs) ≡ Ok (q.tally h v fs, honest F h v q fs)
+      pub honest_read : reading_under F q h v (honest_sheet F h v q fs) ≡ Ok (q.tally h v fs, honest F h v q fs)
       honest_read = reads_back F L (terms_of q h v) (q.tally h v fs) (honest F h v q fs) (record {
         terms_fit = ten_digits;
         degree_fits = omega (arith, degree_small L q Q h v fit);

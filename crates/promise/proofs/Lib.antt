@@ -9,6 +9,7 @@ pub mod Boxes
 pub mod Tests
 pub mod FalseClaims
 pub mod Honesty
+pub mod Inside
 pub mod Promise
 pub mod Adequacy
 pub mod OneRow

@@ -6,6 +6,7 @@ use Rattle.promise.proofs.Runs.{ran_at, always_ledger}
 use Rattle.promise.proofs.Ends.{verifier_keeps, host_keeps}
 use Rattle.promise.proofs.FalseClaims.{few_points, others_true}
 use Rattle.promise.proofs.Honesty.{honest_answers}
+use Rattle.promise.proofs.Inside.{honest_replies, honest_judgings}
 
 module _ {K : Type 0} (F : FieldModel K) where
   verifier_sums : LawfulField F → VerifierSums F
@@ -17,6 +18,8 @@ module _ {K : Type 0} (F : FieldModel K) where
 pub promise : {K : Type 0} {F : FieldModel K} → LawfulField F → Promised F
 promise {K} {F} L = record {
   honest_accepted = honest_answers F L;
+  honest_replies = honest_replies F (honest_answers F L);
+  honest_judgings = honest_judgings F;
   few_points = few_points L;
   others_true = others_true L;
   verifier_ledger = always_ledger (verifier_keeps F L);

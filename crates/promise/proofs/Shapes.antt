@@ -137,17 +137,24 @@ module _ {O X Q A : Type 0} (E : End O X Q A) where
       let l = runs_only t rs given u later in
       (ap₂ ◌∷◌ e.0 (l.0 ∙ ap (λ z. responses_to z rs) e.1), l.1 ∙ ap (λ z. after E z rs) e.1)
 
+  -- a request has one step at most, and the end has the request
+  pub one_step : (s : State X) (r : Request O Q) (a b : Response Q A) (t u : State X) → Step E s r a t → Step E s r b u → (b ≡ a) × (u ≡ t)
+  one_step s r a b t u d e =
+      let (a-is, t-is) = step_only s r a t d in
+      let (b-is, u-is) = step_only s r b u e in
+      (b-is ∙ sym a-is, u-is ∙ sym t-is)
+
+  pub possible : (s : State X) (r : Request O Q) (a : Response Q A) (t : State X) → Step E s r a t → Possible E s r
+  possible _ _ _ _ (by_refused_open o r e) = tt
+  possible _ _ _ _ (by_open o u e) = tt
+  possible _ _ _ _ (by_note x m) = tt
+  possible _ _ _ _ (by_seal x) = tt
+  possible _ _ _ _ (by_asking x q) = tt
+
   shaped : (s : State X) (rs : List (Request O Q)) (given : List (Response Q A)) (t : State X) → Run E s rs given t → Shaped E s rs
   shaped _ _ _ _ (stop s) = tt
   shaped s _ _ u (goes {t = t} {r = r} {a = a} {rs = rs} {given = given} d later) =
       (possible s r a t d, subst (λ z. Shaped E z rs) (step_only s r a t d).1 (shaped t rs given u later))
-    where
-      possible : (s : State X) (r : Request O Q) (a : Response Q A) (t : State X) → Step E s r a t → Possible E s r
-      possible _ _ _ _ (by_refused_open o r e) = tt
-      possible _ _ _ _ (by_open o u e) = tt
-      possible _ _ _ _ (by_note x m) = tt
-      possible _ _ _ _ (by_seal x) = tt
-      possible _ _ _ _ (by_asking x q) = tt
 
   -- the functions of the requests read the run off
   read_answers : (s : State X) (rs : List (Request O Q)) → Shaped E s rs → note_answers E s rs ≡ answers_in (responses_to s rs)

@@ -11,23 +11,43 @@ use Rattle.question.specs.Question.{QuestionModel, LawfulQuestion}
 use Rattle.writer.specs.declared.limits.TheConstants.{ENOUGH_PAPER}
 use Rattle.host.specs.Notes.{HostState}
 use Rattle.verifier.specs.Notes.{VerifierState}
-use Rattle.promise.specs.Runs.{Request, closed, moves, Shaped, after, granted_open}
+use Rattle.promise.specs.Runs.{Request, closed, moves, Shaped, after, granted_open, replies}
 use Rattle.promise.specs.Ledgers.{IsOpen, AlwaysLedger}
 use Rattle.promise.specs.Ends.{VerifierOpening, Judging, verifier_end, HostOpening, Answering, host_end}
 use Rattle.promise.specs.Claims.{Entry, true_count, FalseClaim, false_degrees}
-use Rattle.promise.specs.Sealed.{SealedHost, host_gives, judgings, entry_of, ListedRun, Fooled, HonestAnswer}
+use Rattle.promise.specs.Sealed.{SealedHost, host_gives, judgings, entry_of, ListedRun, Fooled, HonestAnswer, HonestSheet}
 
 -- paper long enough for the sheet of any lawful question
 abbrev pub LongPaper : List ℕ → Type 0
 LongPaper paper = ENOUGH_PAPER ≤ length paper
 
 module _ {K : Type 0} (F : FieldModel K) where
+  -- what a host can be asked: a lawful question that fits, with tray and paper long enough
+  pub record Answerable (h v : ℕ) (a : Answering K) : Type 0 where
+    pub lawful : LawfulQuestion F a.question
+    pub fits : a.question.fits h v ≡ fit.Fits
+    pub room : suc (a.question.degree h) + v ≤ length a.tray
+    pub space : LongPaper a.paper
+
   -- for every lawful question that fits, with tray and paper long enough, a host answers honestly, after whatever it was asked before
   abbrev pub HonestAccepted : Type 0
   HonestAccepted =
       (h v : ℕ) (ms : List Move) (run : SealedHost F h v ms) (q : QuestionModel K) → LawfulQuestion F q → q.fits h v ≡ fit.Fits
       → (tray : List K) → suc (q.degree h) + v ≤ length tray → (paper : List ℕ) → LongPaper paper
       → HonestAnswer F h v ms q tray paper (host_gives F h v ms run q tray paper)
+
+  -- in every run of a host each reply to a lawful question that fits, with tray and paper long enough, is an honest answer
+  abbrev pub HonestReplies : Type 0
+  HonestReplies =
+      (rs : List (Request HostOpening (Answering K))) → Shaped (host_end F) closed rs → (o : HostOpening) → granted_open (host_end F) rs ≡ Some o
+      → AllByRecursion (λ g. Answerable o.rows o.columns g.0 → HonestAnswer F o.rows o.columns (moves rs) g.0.question g.0.tray g.0.paper g.1) (replies (host_end F) closed rs)
+
+  -- in every run of a box each judging of an honest sheet for the moves of the run, with a tray long enough, accepts the true count
+  abbrev pub HonestJudgings : Type 0
+  HonestJudgings =
+      (rs : List (Request (VerifierOpening K) (Judging K))) → Shaped (verifier_end F) closed rs → (o : VerifierOpening K) → granted_open (verifier_end F) rs ≡ Some o
+      → AllByRecursion (λ g. HonestSheet F o.rows o.columns (moves rs) g.0.question g.0.sheet → suc (g.0.question.degree o.rows) ≤ length g.0.tray
+      → g.1.answer ≡ Ok (true_count F o.rows o.columns (moves rs) g.0.question)) (replies (verifier_end F) closed rs)
 
   -- moves and sheets are fixed first: different points, at each of which some listed sheet with a false claim is accepted, are then no more than
   -- the degrees of the questions of the listed sheets with a false claim, added
@@ -59,6 +79,8 @@ module _ {K : Type 0} (F : FieldModel K) where
   -- the promise as one whole
   pub record Promised : Type 0 where
     pub honest_accepted : HonestAccepted
+    pub honest_replies : HonestReplies
+    pub honest_judgings : HonestJudgings
     pub few_points : FewPoints
     pub others_true : OthersTrue
     pub verifier_ledger : AlwaysLedger (verifier_end F) F.limit

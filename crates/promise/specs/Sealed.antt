@@ -8,7 +8,7 @@ use Rattle.std.specs.List.{AllByRecursion}
 use Rattle.polynomial.specs.Interpolation.{node}
 use Rattle.polynomial.specs.Columns.{columns_at}
 use Rattle.question.specs.Question.{QuestionModel}
-use Rattle.protocol.specs.Asking.{honest}
+use Rattle.protocol.specs.Asking.{reading_under, honest}
 use Rattle.host.specs.Answering.{Answered}
 use Rattle.host.specs.Notes.{HostState}
 use Rattle.verifier.specs.Judging.{Judgement}
@@ -70,11 +70,20 @@ module _ {K : Type 0} (F : FieldModel K) (h v : ℕ) (ms : List Move) where
   host_gives run q tray paper = (host_end F).reply run.host (record { question = q; tray = tray; paper = paper })
 
   -- what an honest host gives for a question: the true count, the values of the question's polynomial at 0 to D with the columns at D behind them,
-  -- and on the paper a sheet that every box told the same moves accepts at its point with the true count
+  -- and on the paper a sheet that reads as the true count and these values, and that every box told the same moves accepts at its point with that count
   pub record HonestAnswer (q : QuestionModel K) (tray : List K) (paper : List ℕ) (given : Answered K) : Type 0 where
     pub bytes : ℕ
     pub answer : given.answer ≡ Ok (true_count F h v ms q, bytes)
     pub inside : bytes ≤ length paper
     pub values : given.tray ≡ honest F h v q (ledger h v F.limit ms).counts ++ (columns_at F h v (ledger h v F.limit ms).counts (node F (q.degree h)) ++ drop (suc (q.degree h) + v) tray)
     pub rest : drop bytes given.paper ≡ drop bytes paper
+    pub reads : reading_under F q h v (take bytes given.paper) ≡ Ok (true_count F h v ms q, honest F h v q (ledger h v F.limit ms).counts)
     pub accepted : (r : K) (box : SealedVerifier r) (tray' : List K) → suc (q.degree h) ≤ length tray' → (verifier_gives box q (take bytes given.paper) tray').answer ≡ Ok (true_count F h v ms q)
+
+  -- a sheet that an honest host gave for a question
+  pub record HonestSheet (q : QuestionModel K) (sheet : List ℕ) : Type 0 where
+    pub tray : List K
+    pub paper : List ℕ
+    pub given : Answered K
+    pub honest : HonestAnswer q tray paper given
+    pub written : sheet ≡ take honest.bytes given.paper

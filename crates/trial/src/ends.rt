@@ -1,9 +1,9 @@
 // Both ends of a game over the residues modulo 65,537.
 use crate::statement::Statement;
-use crate::told::Told;
 use board::{Bank, Move};
 use field::Field;
 use fields::Mod65537;
+use play::Told;
 use question::Question;
 use refusal::Refusal;
 use std::alloc::Global;
@@ -30,10 +30,14 @@ pub type Sealed<'a> = Ends<'a, host::Sealed<Mod65537>, verifier::Sealed<Mod65537
 
 impl<'a> Listening<'a> {
     /// Tells both a move.
-    pub fn note(&mut self, m: Move) -> Told {
-        let host = self.host.note(&mut self.counts, m);
-        let verifier = self.verifier.note(&mut self.sums, m);
-        Told { host, verifier }
+    pub fn note(&mut self, moved: Move) -> Told {
+        let host = self.host.note(&mut self.counts, moved);
+        let verifier = self.verifier.note(&mut self.sums, moved);
+        Told {
+            moved,
+            host,
+            verifier,
+        }
     }
 
     /// Seals both.

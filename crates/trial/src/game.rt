@@ -1,8 +1,10 @@
 // A game on a board of two rows and eight columns, told to both ends and sealed, with what is then asked of them.
+use crate::book_words::BookWords;
 use crate::boxes::secret_point;
 use crate::count_table::CountTable;
 use crate::ends::{Ends, Listening, Sealed};
 use crate::questions;
+use crate::told_words::ToldWords;
 use board::{Bank, Book, Move};
 use field::Field;
 use fields::Mod65537;
@@ -41,18 +43,15 @@ pub const POINT: u32 = 5;
 // Tells both ends the moves, and prints what they answer.
 fn tell(rt: &impl Print, ends: &mut Listening<'_>, moves: &[Move]) -> io::Result<()> {
     for m in moves {
-        let Move { cell, amount } = *m;
         let told = ends.note(*m);
-        println!(rt; "  a move of {amount} at cell {cell}: {told}")?;
+        println!(rt; "  {}", ToldWords(told))?;
     }
     Ok(())
 }
 
 // How an end stands.
-fn print_book(rt: &impl Print, end: &str, book: &Book) -> io::Result<()> {
-    let weight = book.weight();
-    let number = book.number();
-    println!(rt; "  the {end} accepted {number} moves, which weigh {weight}")
+fn print_book(rt: &impl Print, end: &'static str, book: &Book) -> io::Result<()> {
+    println!(rt; "  {}", BookWords { end, book })
 }
 
 // What the ends keep of the moves.

@@ -2,6 +2,7 @@
 //! whoever coordinates the trials of a club.
 #![tactic(auto)]
 
+mod book_words;
 mod boxes;
 mod cheats;
 mod count_table;
@@ -16,7 +17,7 @@ mod questions;
 mod refused;
 mod sheets;
 mod statement;
-mod told;
+mod told_words;
 mod trials;
 mod verdict;
 

@@ -1,13 +1,16 @@
 // Whole trials over each field.
+use crate::book_words::BookWords;
 use crate::boxes::SQUARES;
 use crate::element::Shown;
 use crate::field_words::FieldWords;
+use crate::told_words::ToldWords;
 use crate::verdict::Verdict;
-use board::Move;
+use board::{Book, Move};
 use field::Field;
 use fields::{FieldTask, NamedField};
-use play::{Memory, play_trial};
+use play::{Memory, Told, play_trial};
 use season::Squares;
+use std::io;
 use writer::ENOUGH_PAPER;
 
 // The moves of a trial: the three that count, and two that are refused.
@@ -36,6 +39,36 @@ const TRIALS: [(NamedField, u32, u32); 4] = [
     (NamedField::Mersenne31x2, 5, 2_147_483_646),
 ];
 
+// A move that nobody was told yet.
+fn untold(moved: Move) -> Told {
+    Told {
+        moved,
+        host: Ok(()),
+        verifier: Ok(()),
+    }
+}
+
+// What both ends answered to the moves, and how they stand after them.
+fn print_told(rt: &impl Print, told: &[Told], host: &Book, verifier: &Book) -> io::Result<()> {
+    for one in told {
+        println!(rt; "    {}", ToldWords(*one))?;
+    }
+    println!(rt;
+        "    {}",
+        BookWords {
+            end: "host",
+            book: host
+        }
+    )?;
+    println!(rt;
+        "    {}",
+        BookWords {
+            end: "box",
+            book: verifier
+        }
+    )
+}
+
 // A trial for the squares, at a secret point with these parts.
 #[derive(Drop)]
 struct Trial<'a, R> {
@@ -48,7 +81,8 @@ struct Trial<'a, R> {
 impl<'a, R: Print + AllocGlobal> FieldTask for Trial<'a, R> {
     type Out = anyhow::Result<()>;
 
-    // Plays it from the opening of both ends to the judged sheet, and prints how many points could let a false claim by.
+    // Plays it from the opening of both ends to the judged sheet, and prints what it comes to, how many points could let a false claim by,
+    // and what both ends make of the moves.
     fn run<F: Field>(self) -> anyhow::Result<()> {
         let heap = self.rt.alloc();
         let point = F::element(self.low, self.high).unwrap_or(F::zero());
@@ -62,7 +96,9 @@ impl<'a, R: Print + AllocGlobal> FieldTask for Trial<'a, R> {
             tray: tray.as_mut_slice(),
             paper: paper.as_mut_slice(),
         };
-        let found = play_trial(2, 8, point, &MOVES, &Squares, &mut memory);
+        let mut told = MOVES.map(untold);
+        let played = play_trial(2, 8, point, &mut told, &Squares, &mut memory)?;
+        let found = played.found;
         let truth = SQUARES;
         let points = u64::from(F::CHARACTERISTIC).saturating_pow(F::DEGREE);
         println!(self.rt;
@@ -71,6 +107,7 @@ impl<'a, R: Print + AllocGlobal> FieldTask for Trial<'a, R> {
             Shown(point),
             Verdict { found, truth }
         )?;
+        print_told(self.rt, &told, played.host.book(), played.verifier.book())?;
         Ok(())
     }
 }
