@@ -1,4 +1,5 @@
 pub mod Board
+pub mod Refusals
 pub mod Worked
 pub mod WorkedPromise
 pub mod Orders

@@ -21,21 +21,7 @@ use Rattle.host.specs.Answering.{Answered, honest_sheet, answered}
 use Rattle.verifier.specs.Calls.{verifier_open_answer}
 use Rattle.verifier.specs.Judging.{judged}
 use Rattle.verifier.specs.Notes.{verifier_opened, verifier_after}
-use Rattle.worked.specs.Board.{residues, move_at, worked_moves, text_line}
-
--- the counts after the moves
-abbrev pub worked_counts : List ℤ
-worked_counts = (ledger 2 8 256 worked_moves).counts
-
--- the bank of a box at a point that was told the moves, over a bank with one cell more than is needed
-abbrev pub bank_at : ℕ → List (Residue 65537)
-bank_at r = (verifier_after residues (verifier_opened residues 2 8 (node residues r) (replicate 9 residues.one)) worked_moves).bank
-
--- the sheet for the squares with this claim and these three values
-abbrev pub sheet_of : List ℕ → List ℕ → List ℕ → List ℕ → List ℕ
-sheet_of claim a b c =
-    text_line (codes "(sheet 65537 1 (grid 2 8))") (text_line (codes "(claim (4 0 0) " ++ (claim ++ codes ")"))
-    (text_line (codes "(at 0 (" ++ (a ++ codes " 0))")) (text_line (codes "(at 1 (" ++ (b ++ codes " 0))")) (text_line (codes "(at 2 (" ++ (c ++ codes " 0))")) (text_line (codes "(end)") [])))))
+use Rattle.worked.specs.Board.{residues, move_at, worked_moves, text_line, worked_counts, bank_at, sheet_of, numbered}
 
 -- what the box at a point finds of such a sheet
 abbrev pub box_answer : ℕ → List ℕ → Result ℤ Refusal
@@ -52,11 +38,6 @@ t = pair residues.zero residues.one
 -- the rule for the squares at t, on the columns there
 abbrev pub squares_at_t : Extension (Residue 65537)
 squares_at_t = (squares_question extended).rule 2 8 t (columns_at extended 2 8 worked_counts t)
-
--- an answer, with its refusal's number
-abbrev pub numbered : {A : Type 0} → Result A Refusal → Result A ℕ
-numbered (Ok x) = Ok x
-numbered (Err r) = Err (number_of r)
 
 -- the tray of four elements that the box at 5 leaves
 abbrev pub box_tray : List ℕ → List ℕ

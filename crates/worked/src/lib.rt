@@ -3,10 +3,16 @@
 #![tactic(auto)]
 
 ghost use Rattle.worked.specs.Orders.{OrdersMet};
+ghost use Rattle.worked.specs.Refusals.{RefusalCases};
 ghost use Rattle.worked.specs.Worked.{WorkedCases};
 ghost use Rattle.worked.specs.WorkedPromise.{BoundReached, WorkedPromise};
 
 use field::Field;
+
+/// The numbers of refusals, and the lines and places that they tell.
+pub fn refusal_cases()
+    ensures { RefusalCases }
+{}
 
 /// The definitions give the numbers of the worked board.
 pub fn worked_cases()
