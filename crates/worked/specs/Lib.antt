@@ -1,5 +1,6 @@
 pub mod Board
 pub mod Refusals
+pub mod Tokens
 pub mod Worked
 pub mod WorkedPromise
 pub mod Orders

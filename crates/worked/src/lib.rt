@@ -4,6 +4,7 @@
 
 ghost use Rattle.worked.specs.Orders.{OrdersMet};
 ghost use Rattle.worked.specs.Refusals.{RefusalCases};
+ghost use Rattle.worked.specs.Tokens.{TokenCases};
 ghost use Rattle.worked.specs.Worked.{WorkedCases};
 ghost use Rattle.worked.specs.WorkedPromise.{BoundReached, WorkedPromise};
 
@@ -12,6 +13,11 @@ use field::Field;
 /// The numbers of refusals, and the lines and places that they tell.
 pub fn refusal_cases()
     ensures { RefusalCases }
+{}
+
+/// Tokens: which runs are words and numbers, where a run ends, where a reader goes on, and what a token comes to where an item is next.
+pub fn token_cases()
+    ensures { TokenCases }
 {}
 
 /// The definitions give the numbers of the worked board.
