@@ -1,6 +1,7 @@
 pub mod Board
 pub mod Refusals
 pub mod Tokens
+pub mod Games
 pub mod Worked
 pub mod WorkedPromise
 pub mod Orders

@@ -2,6 +2,7 @@
 //! and that the contract of a trial can be met.
 #![tactic(auto)]
 
+ghost use Rattle.worked.specs.Games.{GameCases};
 ghost use Rattle.worked.specs.Orders.{OrdersMet};
 ghost use Rattle.worked.specs.Refusals.{RefusalCases};
 ghost use Rattle.worked.specs.Tokens.{TokenCases};
@@ -18,6 +19,11 @@ pub fn refusal_cases()
 /// Tokens: which runs are words and numbers, where a run ends, where a reader goes on, and what a token comes to where an item is next.
 pub fn token_cases()
     ensures { TokenCases }
+{}
+
+/// Grids and moves: which grids are allowed, how a ledger answers moves, and what they come to.
+pub fn game_cases()
+    ensures { GameCases }
 {}
 
 /// The definitions give the numbers of the worked board.
