@@ -4,6 +4,7 @@
 
 ghost use Rattle.worked.specs.Games.{GameCases};
 ghost use Rattle.worked.specs.Orders.{OrdersMet};
+ghost use Rattle.worked.specs.Questions.{QuestionCases};
 ghost use Rattle.worked.specs.Refusals.{RefusalCases};
 ghost use Rattle.worked.specs.Tokens.{TokenCases};
 ghost use Rattle.worked.specs.Worked.{WorkedCases};
@@ -24,6 +25,11 @@ pub fn token_cases()
 /// Grids and moves: which grids are allowed, how a ledger answers moves, and what they come to.
 pub fn game_cases()
     ensures { GameCases }
+{}
+
+/// Questions: what each of the four says of the worked board, which tags name one, and which degrees the ends take.
+pub fn question_cases()
+    ensures { QuestionCases }
 {}
 
 /// The definitions give the numbers of the worked board.
