@@ -3,6 +3,7 @@ pub mod Refusals
 pub mod Tokens
 pub mod Games
 pub mod Questions
+pub mod Sheets
 pub mod Worked
 pub mod WorkedPromise
 pub mod Orders

@@ -6,6 +6,7 @@ ghost use Rattle.worked.specs.Games.{GameCases};
 ghost use Rattle.worked.specs.Orders.{OrdersMet};
 ghost use Rattle.worked.specs.Questions.{QuestionCases};
 ghost use Rattle.worked.specs.Refusals.{RefusalCases};
+ghost use Rattle.worked.specs.Sheets.{SheetCases};
 ghost use Rattle.worked.specs.Tokens.{TokenCases};
 ghost use Rattle.worked.specs.Worked.{WorkedCases};
 ghost use Rattle.worked.specs.WorkedPromise.{BoundReached, WorkedPromise};
@@ -30,6 +31,11 @@ pub fn game_cases()
 /// Questions: what each of the four says of the worked board, which tags name one, and which degrees the ends take.
 pub fn question_cases()
     ensures { QuestionCases }
+{}
+
+/// Sheets: what is read of the honest sheet and of damaged ones, with lines and places; and how sheets are written.
+pub fn sheet_cases()
+    ensures { SheetCases }
 {}
 
 /// The definitions give the numbers of the worked board.
