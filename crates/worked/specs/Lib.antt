@@ -4,6 +4,7 @@ pub mod Tokens
 pub mod Games
 pub mod Questions
 pub mod Sheets
+pub mod Listening
 pub mod Worked
 pub mod WorkedPromise
 pub mod Orders

@@ -3,6 +3,7 @@
 #![tactic(auto)]
 
 ghost use Rattle.worked.specs.Games.{GameCases};
+ghost use Rattle.worked.specs.Listening.{ListeningCases};
 ghost use Rattle.worked.specs.Orders.{OrdersMet};
 ghost use Rattle.worked.specs.Questions.{QuestionCases};
 ghost use Rattle.worked.specs.Refusals.{RefusalCases};
@@ -36,6 +37,11 @@ pub fn question_cases()
 /// Sheets: what is read of the honest sheet and of damaged ones, with lines and places; and how sheets are written.
 pub fn sheet_cases()
     ensures { SheetCases }
+{}
+
+/// Opens and notes at both ends: the answers, the order of the checks, and what is left in the end and in its bank.
+pub fn listening_cases()
+    ensures { ListeningCases }
 {}
 
 /// The definitions give the numbers of the worked board.
