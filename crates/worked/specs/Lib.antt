@@ -5,6 +5,7 @@ pub mod Games
 pub mod Questions
 pub mod Sheets
 pub mod Listening
+pub mod Answers
 pub mod Worked
 pub mod WorkedPromise
 pub mod Orders

@@ -2,6 +2,7 @@
 //! and that the contract of a trial can be met.
 #![tactic(auto)]
 
+ghost use Rattle.worked.specs.Answers.{AnswerCases};
 ghost use Rattle.worked.specs.Games.{GameCases};
 ghost use Rattle.worked.specs.Listening.{ListeningCases};
 ghost use Rattle.worked.specs.Orders.{OrdersMet};
@@ -42,6 +43,11 @@ pub fn sheet_cases()
 /// Opens and notes at both ends: the answers, the order of the checks, and what is left in the end and in its bank.
 pub fn listening_cases()
     ensures { ListeningCases }
+{}
+
+/// Answers of the host: the claims, the memory that is wanted, the weight of the counts, and the order of the checks.
+pub fn answer_cases()
+    ensures { AnswerCases }
 {}
 
 /// The definitions give the numbers of the worked board.
