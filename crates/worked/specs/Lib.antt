@@ -6,6 +6,7 @@ pub mod Questions
 pub mod Sheets
 pub mod Listening
 pub mod Answers
+pub mod Judgements
 pub mod Worked
 pub mod WorkedPromise
 pub mod Orders

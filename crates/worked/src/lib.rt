@@ -4,6 +4,7 @@
 
 ghost use Rattle.worked.specs.Answers.{AnswerCases};
 ghost use Rattle.worked.specs.Games.{GameCases};
+ghost use Rattle.worked.specs.Judgements.{JudgementCases};
 ghost use Rattle.worked.specs.Listening.{ListeningCases};
 ghost use Rattle.worked.specs.Orders.{OrdersMet};
 ghost use Rattle.worked.specs.Questions.{QuestionCases};
@@ -48,6 +49,11 @@ pub fn listening_cases()
 /// Answers of the host: the claims, the memory that is wanted, the weight of the counts, and the order of the checks.
 pub fn answer_cases()
     ensures { AnswerCases }
+{}
+
+/// Judgements of the box: what it accepts and where, what it finds of other sheets, and the order of the checks.
+pub fn judgement_cases()
+    ensures { JudgementCases }
 {}
 
 /// The definitions give the numbers of the worked board.
