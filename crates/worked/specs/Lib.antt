@@ -7,6 +7,6 @@ pub mod Sheets
 pub mod Listening
 pub mod Answers
 pub mod Judgements
-pub mod Worked
+pub mod Memories
 pub mod WorkedPromise
 pub mod Orders

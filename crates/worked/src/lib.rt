@@ -6,12 +6,12 @@ ghost use Rattle.worked.specs.Answers.{AnswerCases};
 ghost use Rattle.worked.specs.Games.{GameCases};
 ghost use Rattle.worked.specs.Judgements.{JudgementCases};
 ghost use Rattle.worked.specs.Listening.{ListeningCases};
+ghost use Rattle.worked.specs.Memories.{MemoryCases};
 ghost use Rattle.worked.specs.Orders.{OrdersMet};
 ghost use Rattle.worked.specs.Questions.{QuestionCases};
 ghost use Rattle.worked.specs.Refusals.{RefusalCases};
 ghost use Rattle.worked.specs.Sheets.{SheetCases};
 ghost use Rattle.worked.specs.Tokens.{TokenCases};
-ghost use Rattle.worked.specs.Worked.{WorkedCases};
 ghost use Rattle.worked.specs.WorkedPromise.{BoundReached, WorkedPromise};
 
 use field::Field;
@@ -56,9 +56,9 @@ pub fn judgement_cases()
     ensures { JudgementCases }
 {}
 
-/// The definitions give the numbers of the worked board.
-pub fn worked_cases()
-    ensures { WorkedCases }
+/// Trays and papers: what each call leaves in them, whether it refuses or not.
+pub fn memory_cases()
+    ensures { MemoryCases }
 {}
 
 /// The promise's bound is reached: a sheet with a false claim and the bound 2 is accepted at two points.
