@@ -7,7 +7,7 @@ use Rattle.season.specs.Goods.{goods_question}
 use Rattle.season.specs.Range.{range_question}
 use Rattle.season.specs.Squares.{squares_question}
 use Rattle.host.specs.Answering.{Answered, answered}
-use Rattle.worked.specs.Board.{residues, worked_counts, sum_of_squares, numbered}
+use Rattle.worked.specs.Board.{residues, worked_counts, sum_of_squares, squares_of_degree, numbered}
 
 -- what the host answers for the squares and leaves, with a tray of m ones and a paper of n zeros
 abbrev pub answered_in : ℕ → ℕ → Answered (Residue 65537)
@@ -44,6 +44,9 @@ pub record AnswerCases : Type 0 where
   -- a question that does not fit
   pub backward : reply worked_counts backward_range 11 9216 ≡ Err 20
   pub goods_8 : reply worked_counts (goods_question residues 8) 11 9216 ≡ Err 20
+  -- one whose degree is below h − 1 or above 252
+  pub degree_0 : reply worked_counts (squares_of_degree 0) 11 9216 ≡ Err 20
+  pub degree_253 : reply worked_counts (squares_of_degree 253) 300 9216 ≡ Err 20
   -- 13 looks at the absolute counts together: none alone need be above 256
   pub counts_256 : reply_over (pos 256) (pos 0) 14 ≡ Ok (pos 65536, 102)
   pub counts_257 : reply_over (pos 257) (pos 0) 14 ≡ Err 13

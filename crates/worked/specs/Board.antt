@@ -60,6 +60,10 @@ bank_at r = (verifier_after residues (verifier_opened residues 2 8 (node residue
 abbrev pub sum_of_squares : QuestionModel (Residue 65537)
 sum_of_squares = squares_question residues
 
+-- the same, with another degree
+abbrev pub squares_of_degree : ℕ → QuestionModel (Residue 65537)
+squares_of_degree d = record sum_of_squares { degree = λ h. d }
+
 -- three numbers that name a question
 abbrev pub tag_of : ℕ → ℕ → ℕ → Tag
 tag_of k a b = record { kind = k; first = a; second = b }

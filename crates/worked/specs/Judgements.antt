@@ -13,7 +13,7 @@ use Rattle.season.specs.Range.{range_question}
 use Rattle.season.specs.Squares.{squares_question}
 use Rattle.verifier.specs.Judging.{judged}
 use Rattle.extension.specs.declared.extension.Extension.{Extension}
-use Rattle.worked.specs.Board.{residues, extended, t, worked_counts, bank_at, sum_of_squares, sheet_of, true_sheet, sheet_but, sheet_about, text_of, numbered}
+use Rattle.worked.specs.Board.{residues, extended, t, worked_counts, bank_at, sum_of_squares, squares_of_degree, sheet_of, true_sheet, sheet_but, sheet_about, text_of, numbered}
 
 -- what the box at a point finds of a sheet for the squares
 abbrev pub box_answer : ℕ → List ℕ → Result ℤ Refusal
@@ -101,6 +101,10 @@ pub record JudgementCases : Type 0 where
   pub tray_of_3 : judged_in 8 (squares_question residues) (sheet_of (codes "14") (codes "9") (codes "5") (codes "17")) 3 ≡ Ok (pos 14)
   pub goods_tray_of_1 : judged_in 8 (goods_question residues 0) (goods_sheet (codes "4") (codes "1")) 1 ≡ Err 21
   pub goods_tray_of_2 : judged_in 8 (goods_question residues 0) (goods_sheet (codes "4") (codes "1")) 2 ≡ Ok (pos 4)
+  -- a question that does not fit, or whose degree is below h − 1 or above 252
+  pub cell_16 : judged_in 8 (cell_question residues 16) true_sheet 3 ≡ Err 20
+  pub degree_0 : judged_in 8 (squares_of_degree 0) true_sheet 3 ≡ Err 20
+  pub degree_253 : judged_in 8 (squares_of_degree 253) true_sheet 300 ≡ Err 20
   -- its checks in order: the bank, the question, the tray, the sheet
   pub bank_first : judged_in 7 (range_question residues 9 8) [] 2 ≡ Err 12
   pub question_second : judged_in 8 (range_question residues 9 8) [] 2 ≡ Err 20

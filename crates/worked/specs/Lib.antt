@@ -1,5 +1,6 @@
 pub mod Board
 pub mod Refusals
+pub mod Fields
 pub mod Tokens
 pub mod Games
 pub mod Questions
@@ -8,5 +9,6 @@ pub mod Listening
 pub mod Answers
 pub mod Judgements
 pub mod Memories
+pub mod Trials
 pub mod WorkedPromise
 pub mod Orders

@@ -1,6 +1,7 @@
 -- Opens and notes at both ends: what they answer, which check comes first, and what they leave in the end and in its bank. Assumes nothing.
 use Rattle.std.specs.Prelude.{◌≡◌, ℕ, ◌-◌, List, [], ◌∷◌, ◌++◌, map, replicate, ℤ, pos, negsuc, Ok, Err, Result}
 use Rattle.prime.specs.declared.residue.Residue.{Residue}
+use Rattle.board.specs.Banks.{reached}
 use Rattle.board.specs.Standing.{Standing}
 use Rattle.polynomial.specs.Interpolation.{node}
 use Rattle.host.specs.Calls.{host_open_answer, host_open_bank, host_note_answer, host_note_standing, host_note_bank}
@@ -67,6 +68,9 @@ pub record ListeningCases : Type 0 where
   pub host_with_15_cells : host_grant 2 8 15 ≡ Err 12
   pub host_with_16_cells : host_grant 2 8 16 ≡ Ok tt
   pub host_with_17_cells : host_grant 2 8 17 ≡ Ok tt
+  -- nothing is put behind the last cell
+  pub cell_7_of_8 : reached (old_sums 8) 7 ≡ Ok tt
+  pub cell_8_of_8 : numbered (reached (old_sums 8) 8) ≡ Err 12
   -- a grid outside the limits is refused with cells enough, and with none: 10 comes before 12
   pub box_10 : box_grant 2 12 12 ≡ Err 10
   pub box_10_before_12 : box_grant 2 12 0 ≡ Err 10

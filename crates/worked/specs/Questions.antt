@@ -13,7 +13,7 @@ use Rattle.season.specs.Range.{range_question}
 use Rattle.season.specs.Season.{season_of}
 use Rattle.season.specs.Squares.{squares_question}
 use Rattle.protocol.specs.Asking.{suit_answer, claim_image, honest}
-use Rattle.worked.specs.Board.{residues, values, worked_counts, sum_of_squares, tag_of, extended, t, numbered}
+use Rattle.worked.specs.Board.{residues, values, worked_counts, sum_of_squares, squares_of_degree, tag_of, extended, t, numbered}
 
 -- three of the four
 abbrev pub cell : ℕ → QuestionModel (Residue 65537)
@@ -36,10 +36,6 @@ count_of q = q.tally 2 8 worked_counts
 -- its honest values there
 abbrev pub honest_values : QuestionModel (Residue 65537) → List ℕ
 honest_values q = values (honest residues 2 8 q worked_counts)
-
--- the squares, with another degree
-abbrev pub squares_of_degree : ℕ → QuestionModel (Residue 65537)
-squares_of_degree d = record sum_of_squares { degree = λ h. d }
 
 -- counts on three rows: 1, 2 and 4 in the first column, whose polynomial is 1 + X / 2 + X X / 2
 abbrev pub counts_on_3_rows : List ℤ

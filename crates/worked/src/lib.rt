@@ -3,6 +3,7 @@
 #![tactic(auto)]
 
 ghost use Rattle.worked.specs.Answers.{AnswerCases};
+ghost use Rattle.worked.specs.Fields.{FieldCases};
 ghost use Rattle.worked.specs.Games.{GameCases};
 ghost use Rattle.worked.specs.Judgements.{JudgementCases};
 ghost use Rattle.worked.specs.Listening.{ListeningCases};
@@ -12,6 +13,7 @@ ghost use Rattle.worked.specs.Questions.{QuestionCases};
 ghost use Rattle.worked.specs.Refusals.{RefusalCases};
 ghost use Rattle.worked.specs.Sheets.{SheetCases};
 ghost use Rattle.worked.specs.Tokens.{TokenCases};
+ghost use Rattle.worked.specs.Trials.{TrialCases};
 ghost use Rattle.worked.specs.WorkedPromise.{BoundReached, WorkedPromise};
 
 use field::Field;
@@ -19,6 +21,11 @@ use field::Field;
 /// The numbers of refusals, and the lines and places that they tell.
 pub fn refusal_cases()
     ensures { RefusalCases }
+{}
+
+/// Fields and polynomials: residues, their quadratic extension, and polynomials through given values.
+pub fn field_cases()
+    ensures { FieldCases }
 {}
 
 /// Tokens: which runs are words and numbers, where a run ends, where a reader goes on, and what a token comes to where an item is next.
@@ -59,6 +66,11 @@ pub fn judgement_cases()
 /// Trays and papers: what each call leaves in them, whether it refuses or not.
 pub fn memory_cases()
     ensures { MemoryCases }
+{}
+
+/// Trials: both ends from open to judgement, what comes out, and what the memory holds then.
+pub fn trial_cases()
+    ensures { TrialCases }
 {}
 
 /// The promise's bound is reached: a sheet with a false claim and the bound 2 is accepted at two points.
