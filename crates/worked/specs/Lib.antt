@@ -1,4 +1,14 @@
 pub mod Board
-pub mod Worked
+pub mod Refusals
+pub mod Fields
+pub mod Tokens
+pub mod Games
+pub mod Questions
+pub mod Sheets
+pub mod Listening
+pub mod Answers
+pub mod Judgements
+pub mod Memories
+pub mod Trials
 pub mod WorkedPromise
 pub mod Orders

@@ -1,7 +1,7 @@
 use Rattle.std.proofs.Common.{rules}
 use Rattle.std.specs.Fmt.{digits}
 use Rattle.text.specs.Items.{items_pass}
-use Rattle.worked.proofs.worked_cases.Goals as goal
+use Rattle.worked.proofs.sheet_cases.Goals as goal
 
 -- computed, case by case
 pub returns : goal.returns
