@@ -18,8 +18,8 @@ abbrev pub with_t : ℕ → ℕ → Extension (Residue 65537)
 with_t a b = pair (node residues a) (node residues b)
 
 -- a and b of such an element
-abbrev pub parts_of : Extension (Residue 65537) → ℕ × ℕ
-parts_of x = (extended.low x, extended.high x)
+abbrev pub both_parts : Extension (Residue 65537) → ℕ × ℕ
+both_parts x = (extended.low x, extended.high x)
 
 -- arithmetic
 pub record FieldCases : Type 0 where
@@ -51,19 +51,19 @@ pub record FieldCases : Type 0 where
   pub same_5 : same residues (whole 5) (whole 5) ≡ true
   pub not_same_6 : same residues (whole 5) (whole 6) ≡ false
   -- the extension, in which t × t = 3
-  pub t_squared : parts_of (extended.mul t t) ≡ (3, 0)
-  pub extended_sum : parts_of (extended.add (with_t 2 65536) (with_t 65536 5)) ≡ (1, 4)
-  pub extended_opposite : parts_of (extended.neg (with_t 2 0)) ≡ (65535, 0)
-  pub extended_product : parts_of (extended.mul (with_t 2 1) (with_t 5 3)) ≡ (19, 11)
-  pub inverse_of_t : option_map parts_of (inverse extended t) ≡ Some (0, 21846)
-  pub inverse_of_1_and_t : option_map parts_of (inverse extended (with_t 1 1)) ≡ Some (32768, 32769)
-  pub extended_inverse_of_0 : option_map parts_of (inverse extended (with_t 0 0)) ≡ None
-  pub extended_image : parts_of (extended.image (negsuc 0)) ≡ (65536, 0)
+  pub t_squared : both_parts (extended.mul t t) ≡ (3, 0)
+  pub extended_sum : both_parts (extended.add (with_t 2 65536) (with_t 65536 5)) ≡ (1, 4)
+  pub extended_opposite : both_parts (extended.neg (with_t 2 0)) ≡ (65535, 0)
+  pub extended_product : both_parts (extended.mul (with_t 2 1) (with_t 5 3)) ≡ (19, 11)
+  pub inverse_of_t : option_map both_parts (inverse extended t) ≡ Some (0, 21846)
+  pub inverse_of_1_and_t : option_map both_parts (inverse extended (with_t 1 1)) ≡ Some (32768, 32769)
+  pub extended_inverse_of_0 : option_map both_parts (inverse extended (with_t 0 0)) ≡ None
+  pub extended_image : both_parts (extended.image (negsuc 0)) ≡ (65536, 0)
   pub extended_low : extended.low (with_t 7 9) ≡ 7
   pub extended_high : extended.high (with_t 7 9) ≡ 9
-  pub extended_element : option_map parts_of (element extended 65535 65536) ≡ Some (65535, 65536)
-  pub extended_low_65537 : option_map parts_of (element extended 65537 0) ≡ None
-  pub extended_high_65537 : option_map parts_of (element extended 0 65537) ≡ None
+  pub extended_element : option_map both_parts (element extended 65535 65536) ≡ Some (65535, 65536)
+  pub extended_low_65537 : option_map both_parts (element extended 65537 0) ≡ None
+  pub extended_high_65537 : option_map both_parts (element extended 0 65537) ≡ None
   pub not_same_high : same extended (with_t 5 1) (with_t 5 2) ≡ false
   pub not_same_low : same extended (with_t 5 1) (with_t 6 1) ≡ false
   -- polynomials by their coefficients, the constant one first

@@ -37,8 +37,8 @@ abbrev pub found_extended : List ℕ → Result ℤ Refusal
 found_extended sheet = read_answer extended (terms_of (squares_question extended) 2 8) sheet (replicate 3 extended.one)
 
 -- a sheet over the extension, whose second value has this high part
-abbrev pub extended_sheet : List ℕ → List ℕ
-extended_sheet high =
+abbrev pub sheet_with_high : List ℕ → List ℕ
+sheet_with_high high =
     text_of (codes "(sheet 65537 2 (grid 2 8))" ∷ codes "(claim (4 0 0) 12)" ∷ codes "(at 0 (9 0))" ∷ (codes "(at 1 (3 " ++ (high ++ codes "))")) ∷ codes "(at 2 (15 2))" ∷ codes "(end)" ∷ [])
 
 -- what writing n zeros as the values of a sheet answers, on a paper of m zeros
@@ -105,8 +105,8 @@ pub record SheetCases : Type 0 where
   pub goods : read_into 2 (goods_question residues 0) (sheet_about (codes "(claim (2 0 0) 4)") (codes "(at 0 (3 0))" ∷ codes "(at 1 (1 0))" ∷ [])) ≡ Ok (pos 4)
   pub goods_with_a_third : read_into 2 (goods_question residues 0) (sheet_about (codes "(claim (2 0 0) 4)") (codes "(at 0 (3 0))" ∷ codes "(at 1 (1 0))" ∷ codes "(at 2 (0 0))" ∷ [])) ≡ Err 31
   -- in the extension high parts go to 65,536 too
-  pub high_65536 : found_extended (extended_sheet (codes "65536")) ≡ Ok (pos 12)
-  pub high_65537 : found_extended (extended_sheet (codes "65537")) ≡ Err (Sheet fault.Part 4 68)
+  pub high_65536 : found_extended (sheet_with_high (codes "65536")) ≡ Ok (pos 12)
+  pub high_65537 : found_extended (sheet_with_high (codes "65537")) ≡ Err (Sheet fault.Part 4 68)
   pub not_extended : found_extended true_sheet ≡ Err (Sheet fault.Field 1 13)
   -- behind the last line
   pub word_behind : found (true_sheet ++ codes "x") ≡ Err (Sheet fault.Unexpected 7 92)
