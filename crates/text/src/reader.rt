@@ -1,5 +1,5 @@
 // The reader: one token after another, each with its line and place, and items read in their order.
-ghost use Rattle.std.specs.Prelude.{◌≡◌, ◌≤◌, List, map, length, ℤ, IfOk, OnOk};
+ghost use Rattle.std.specs.Prelude.{◌≡◌, ◌+◌, ◌<◌, ◌≤◌, List, map, length, ℤ, IfOk, OnOk};
 ghost use Rattle.text.specs.Tokens.{skip_spaces, next_token, after_token, cursor_start};
 ghost use Rattle.text.specs.Items.{stated_count_of, stated_count, stated_front, item_pass, items_pass, passed_to};
 ghost use Rattle.text.specs.Marks.{InRanges};
@@ -56,6 +56,8 @@ impl<'a> Reader<'a> {
         ensures line { result.line ≡ (skip_spaces self.old).line }
         ensures place { result.place ≡ (skip_spaces self.old).place }
         ensures after { self.new ≡ after_token self.old }
+        ensures counted { result.line ≤ result.place + 1 }
+        ensures going_on { self.new.line ≤ self.new.place + 1 }
     {
         let rest = &self.text[self.cursor..];
         let skipped = leading_spaces(rest);
@@ -75,6 +77,7 @@ impl<'a> Reader<'a> {
         ensures count { IfOk result
             (λ number. given_count number ≡ stated_count_of (item_of item)) }
         ensures after { self.new ≡ after_token self.old }
+        ensures counted { self.new.line ≤ self.new.place + 1 }
     {
         let found = self.next();
         match item.check(found.token) {
@@ -95,6 +98,7 @@ impl<'a> Reader<'a> {
         ensures ranges { OnOk result
             (InRanges (map item_of items.now) (stated_front (map item_of items.now) numbers.new)) }
         ensures after { self.new ≡ passed_to (map item_of items.now) self.old }
+        ensures counted { 0 < length items.now → self.new.line ≤ self.new.place + 1 }
     {
         let mut at = 0;
         for item in items {

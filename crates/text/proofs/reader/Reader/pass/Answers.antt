@@ -48,6 +48,7 @@ loop-item-preserved c =
                 ∙ to_on item_of items i Open c.loop-item-test.true c.loop-item.self _ c.item.new.self
                 (ap (λ o. passed_one [] (Ok o) c.item.new.self) (sym w.in-Some.is) ∙ c.in_ok-number.ensures.read [])
                 ∙ c.loop-item.invariant.ends;
+            counted = λ _. c.in_ok-number.ensures.counted;
           }
       | in_default w ↦
           let none = sym c.in_ok-number.ensures.count ∙ ap given_count w.in_default.is in
@@ -65,6 +66,7 @@ loop-item-preserved c =
                 ∙ to_on item_of items i Open c.loop-item-test.true c.loop-item.self _ c.item.new.self
                 (ap (λ o. passed_one [] (Ok o) c.item.new.self) (sym w.in_default.is) ∙ c.in_ok-number.ensures.read [])
                 ∙ c.loop-item.invariant.ends;
+            counted = λ _. c.in_ok-number.ensures.counted;
           }
     ]
 
