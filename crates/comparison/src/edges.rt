@@ -86,7 +86,7 @@ fn judge_over<F: Field>(table: &mut Table, sealed: &mut Sealed<F>) -> Result<(),
 fn write_long<F: Field>(table: &mut Table, sealed: &mut Sealed<F>) -> Result<(), AllocError> {
     let heap = table.source.heap;
     let field = table.source.field;
-    let greatest = u64::from(field.p).saturating_sub(1);
+    let greatest = field.p.saturating_sub(1);
     let high = if field.e == 1 { 0 } else { greatest };
     let element = Element {
         low: greatest,

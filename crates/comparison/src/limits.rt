@@ -37,7 +37,7 @@ pub fn fill_weight<F: Field>(table: &mut Table) -> Result<(), Stop> {
             .report
             .number("a move up to the limit of weights", &told, Ok(()));
     }
-    let amount = i64::from(limit % 256);
+    let amount = i64::try_from(limit % 256).unwrap_or(0);
     let _ = host.note(table, Move { cell, amount })?;
     for amount in [1, -1, 256, -256] {
         let told = host.note(table, Move { cell, amount })?;
