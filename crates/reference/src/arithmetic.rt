@@ -109,6 +109,11 @@ impl Arithmetic {
         self.power(x, q.wrapping_sub(2))
     }
 
+    /// Whether two numbers are the parts of an element.
+    pub fn has_parts(self, low: u64, high: u64) -> bool {
+        low < self.p && high < self.p && (self.e != 1 || high == 0)
+    }
+
     /// The elements of these added, from the first on.
     pub fn total(self, several: &[Element]) -> Element {
         several
