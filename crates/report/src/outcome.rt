@@ -1,7 +1,6 @@
 // What a call came to, alike for the product and for the reference.
 use crate::refused::Refused;
 use reference::Stop;
-use std::alloc::AllocError;
 
 /// What a call gave, or why it refused.
 pub type Outcome<T> = Result<T, Refused>;
@@ -11,13 +10,9 @@ pub fn found<T>(answer: Result<T, refusal::Refusal>) -> Outcome<T> {
     answer.map_err(Refused::from)
 }
 
-/// What a call of the reference came to, unless there was no memory for it.
-pub fn wanted<T>(answer: Result<T, Stop>) -> Result<Outcome<T>, AllocError> {
-    match answer {
-        Ok(given) => Ok(Ok(given)),
-        Err(Stop::Refused(refusal)) => Ok(Err(Refused::from(refusal))),
-        Err(Stop::Memory(e)) => Err(e),
-    }
+/// What a call of the reference came to. Where it had no memory, that has a number that no refusal has.
+pub fn wanted<T>(answer: Result<T, Stop>) -> Outcome<T> {
+    answer.map_err(Refused::from)
 }
 
 /// The outcome without what was given.
