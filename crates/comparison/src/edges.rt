@@ -45,7 +45,7 @@ fn set_count<F: Field>(host: &mut HostPair<F>, cell: usize, count: i32) {
 }
 
 // Moves at a cell whose count is at the limit or beyond it, and elsewhere.
-fn note_at_limit<F: Field>(table: &mut Table, host: &mut HostPair<F>) -> Result<(), AllocError> {
+fn note_at_limit<F: Field>(table: &mut Table, host: &mut HostPair<F>) {
     let limit = i32::try_from(table.source.field.limit).unwrap_or(0);
     let least = limit.saturating_neg();
     for count in [
@@ -57,11 +57,10 @@ fn note_at_limit<F: Field>(table: &mut Table, host: &mut HostPair<F>) -> Result<
     ] {
         set_count(host, 1, count);
         for cell in [1, 2, 16] {
-            let _ = host.note(table, Move { cell, amount: -1 })?;
+            let _ = host.note(table, Move { cell, amount: -1 });
         }
     }
     set_count(host, 1, 0);
-    Ok(())
 }
 
 // Answers in rooms that are large enough or not.
@@ -86,7 +85,7 @@ fn judge_over<F: Field>(table: &mut Table, sealed: &mut Sealed<F>) -> Result<(),
 fn write_long<F: Field>(table: &mut Table, sealed: &mut Sealed<F>) -> Result<(), AllocError> {
     let heap = table.source.heap;
     let field = table.source.field;
-    let greatest = u64::from(field.p).saturating_sub(1);
+    let greatest = field.p.saturating_sub(1);
     let high = if field.e == 1 { 0 } else { greatest };
     let element = Element {
         low: greatest,
@@ -134,10 +133,10 @@ pub fn play_edges<F: Field>(table: &mut Table) -> Result<(), Stop> {
         return Ok(());
     };
     let m = Move { cell: 0, amount: 3 };
-    let _ = both.note(table, m)?;
-    note_at_limit(table, &mut both.host)?;
-    both.host.note_short(table, m)?;
-    both.verifier.note_short(table, m)?;
+    let _ = both.note(table, m);
+    note_at_limit(table, &mut both.host);
+    both.host.note_short(table, m);
+    both.verifier.note_short(table, m);
     ask_short(table, &mut seal(both))?;
     Ok(())
 }

@@ -9,14 +9,9 @@ use report::{Table, number_of, same, same_elements, wanted};
 use std::alloc::AllocError;
 
 // Tells all a move, and holds the ends' answers to the ledger's.
-fn tell<F: Field>(
-    table: &mut Table,
-    ledger: &mut Ledger,
-    both: &mut Listening<F>,
-    m: Move,
-) -> Result<(), AllocError> {
-    let told = number_of(&wanted(ledger.note(m))?);
-    let (at_host, at_verifier) = both.note(table, m)?;
+fn tell<F: Field>(table: &mut Table, ledger: &mut Ledger, both: &mut Listening<F>, m: Move) {
+    let told = number_of(&wanted(ledger.note(m)));
+    let (at_host, at_verifier) = both.note(table, m);
     let report = &mut table.report;
     report.number("the ledger's answer, at the host", &at_host, told);
     report.number("the ledger's answer, at the box", &at_verifier, told);
@@ -25,7 +20,6 @@ fn tell<F: Field>(
         both.host.standing.weight,
         ledger.standing().weight,
     );
-    Ok(())
 }
 
 // Holds the banks to what the ledger's counts come to.
@@ -64,7 +58,7 @@ fn play_on<F: Field>(table: &mut Table, plan: Plan, both: Listening<F>) -> Resul
     let mut ledger = Ledger::open(table.source.heap, at.rows, at.columns, at.limit)?;
     for _ in 0..plan.moves {
         let m = table.source.any_move(at.cells());
-        tell(table, &mut ledger, &mut both, m)?;
+        tell(table, &mut ledger, &mut both, m);
     }
     both.host.compare_bank(table);
     both.verifier.compare_bank(table);

@@ -14,8 +14,11 @@ pub fn open_grid<F: Field>(
     table.report.next_game();
     let counts = table.source.any_counts(520)?;
     let sums = table.source.any_elements(20)?;
-    let host = HostPair::<F>::open(table, rows, columns, (), counts)?;
-    let verifier = VerifierPair::<F>::open(table, rows, columns, Element::ONE, sums)?;
+    let heap = table.source.heap;
+    let own_counts = HostPair::<F>::cells_of(heap, counts.as_slice())?;
+    let own_sums = VerifierPair::<F>::cells_of(heap, sums.as_slice())?;
+    let host = HostPair::<F>::open(table, rows, columns, (), own_counts, counts);
+    let verifier = VerifierPair::<F>::open(table, rows, columns, Element::ONE, own_sums, sums);
     let report = &mut table.report;
     report.holds("a host on a grid at the limits", host.is_some() == opens);
     report.holds("a box on a grid at the limits", verifier.is_some() == opens);
@@ -26,21 +29,22 @@ pub fn open_grid<F: Field>(
 pub fn fill_weight<F: Field>(table: &mut Table) -> Result<(), Stop> {
     table.report.next_game();
     let counts = table.source.any_counts(8)?;
-    let Some(mut host) = HostPair::<F>::open(table, 1, 8, (), counts)? else {
+    let own_counts = HostPair::<F>::cells_of(table.source.heap, counts.as_slice())?;
+    let Some(mut host) = HostPair::<F>::open(table, 1, 8, (), own_counts, counts) else {
         return Ok(());
     };
     let limit = table.source.field.limit;
     let cell = 0;
     for _ in 0..limit / 256 {
-        let told = host.note(table, Move { cell, amount: 256 })?;
+        let told = host.note(table, Move { cell, amount: 256 });
         table
             .report
             .number("a move up to the limit of weights", &told, Ok(()));
     }
-    let amount = i64::from(limit % 256);
-    let _ = host.note(table, Move { cell, amount })?;
+    let amount = i64::try_from(limit % 256).unwrap_or(0);
+    let _ = host.note(table, Move { cell, amount });
     for amount in [1, -1, 256, -256] {
-        let told = host.note(table, Move { cell, amount })?;
+        let told = host.note(table, Move { cell, amount });
         table.report.number(
             "a move beyond the limit of weights",
             &told,

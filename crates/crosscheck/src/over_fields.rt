@@ -25,7 +25,9 @@ pub fn play_all(table: &mut Table) -> anyhow::Result<()> {
     for base in [Arithmetic::MOD_65537, Arithmetic::MERSENNE_31] {
         for field in [base, base.extended()] {
             table.source.set_field(field);
-            let played = with_field(field.p, field.e, Everything { table: &mut *table })?;
+            let p = u32::try_from(field.p)?;
+            let e = u32::try_from(field.e)?;
+            let played = with_field(p, e, Everything { table: &mut *table })?;
             played.map_err(|_| anyhow!("no memory for a game"))?;
         }
     }

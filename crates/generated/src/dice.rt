@@ -53,9 +53,8 @@ impl Dice {
 
     /// Any element of a field.
     pub fn element(&mut self, field: Arithmetic) -> Element {
-        let p = u64::from(field.p);
-        let low = self.below(p);
-        let high = if field.e == 1 { 0 } else { self.below(p) };
+        let low = self.below(field.p);
+        let high = if field.e == 1 { 0 } else { self.below(field.p) };
         Element { low, high }
     }
 }

@@ -142,8 +142,8 @@ impl Source {
 
     // A number that is the field's, a grid's or near them.
     fn odd_number(&mut self) -> i64 {
-        let p = i64::from(self.field.p);
-        let limit = i64::from(self.field.limit);
+        let p = i64::try_from(self.field.p).unwrap_or(0);
+        let limit = i64::try_from(self.field.limit).unwrap_or(0);
         let dice = &mut self.dice;
         match dice.below(6) {
             0 => p.wrapping_sub(dice.between(0, 1)),
@@ -184,12 +184,13 @@ impl Source {
 
     // Something else than what so many values say.
     fn any_falsehood(&mut self, values: u64) -> Falsehood {
+        let p = i64::try_from(self.field.p).unwrap_or(0);
         let by = self.dice.between(-3, 3);
         let place = self.dice.below(values) as usize;
         let value = self.any_element();
         match self.dice.below(6) {
             0 => Falsehood::Claim(by),
-            1 => Falsehood::Claim(i64::from(self.field.p).wrapping_mul(by)),
+            1 => Falsehood::Claim(p.wrapping_mul(by)),
             2 => Falsehood::Value { place, value },
             3 => Falsehood::ClaimAndFirst(by),
             _ => Falsehood::Slipped(Slip {

@@ -25,7 +25,7 @@ impl<'a, F: Field, Q: Question<F>> Inquiry<'a, F, Q> {
             self.ask,
             plain_tray.as_mut_slice(),
             plain_paper.as_mut_slice(),
-        ))?;
+        ));
         let report = &mut self.table.report;
         report.outcome(Call::Answer, "an answer", &answer, &plain);
         let same = same_elements(tray.as_slice(), plain_tray.as_slice());

@@ -24,7 +24,7 @@ impl<'a, F: Field, Q: Question<F>> Inquiry<'a, F, Q> {
             sheet.claim,
             sheet.values.as_slice(),
             plain_paper.as_mut_slice(),
-        ))?;
+        ));
         let report = &mut self.table.report;
         report.outcome(Call::Write, "a writing", &written, &laid);
         report.holds("the paper after a writing", paper == plain_paper);

@@ -25,8 +25,11 @@ impl<F: Field> Listening<F> {
         counts: Vec<i64>,
         sums: Vec<Element>,
     ) -> Result<Option<Listening<F>>, AllocError> {
-        let host = HostPair::open(table, rows, columns, (), counts)?;
-        let verifier = VerifierPair::open(table, rows, columns, point, sums)?;
+        let heap = table.source.heap;
+        let own_counts = HostPair::<F>::cells_of(heap, counts.as_slice())?;
+        let own_sums = VerifierPair::<F>::cells_of(heap, sums.as_slice())?;
+        let host = HostPair::open(table, rows, columns, (), own_counts, counts);
+        let verifier = VerifierPair::open(table, rows, columns, point, own_sums, sums);
         Ok(
             host.zip(verifier)
                 .map(|(host, verifier)| Listening { host, verifier }),
@@ -34,13 +37,9 @@ impl<F: Field> Listening<F> {
     }
 
     /// Tells all a move: what the calls of the product's host and box came to.
-    pub fn note(
-        &mut self,
-        table: &mut Table,
-        m: Move,
-    ) -> Result<(Outcome<()>, Outcome<()>), AllocError> {
-        let at_host = self.host.note(table, m)?;
-        let at_verifier = self.verifier.note(table, m)?;
-        Ok((at_host, at_verifier))
+    pub fn note(&mut self, table: &mut Table, m: Move) -> (Outcome<()>, Outcome<()>) {
+        let at_host = self.host.note(table, m);
+        let at_verifier = self.verifier.note(table, m);
+        (at_host, at_verifier)
     }
 }

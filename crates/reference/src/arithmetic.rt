@@ -5,13 +5,13 @@ use crate::element::Element;
 #[derive(Clone, Copy, PartialEq, Eq, Debug)]
 pub struct Arithmetic {
     /// The characteristic.
-    pub p: u32,
+    pub p: u64,
     /// The degree, 1 or 2.
-    pub e: u32,
+    pub e: u64,
     /// The residue that t × t comes to.
-    pub w: u32,
+    pub w: u64,
     /// The limit of weights.
-    pub limit: u32,
+    pub limit: u64,
 }
 
 impl Arithmetic {
@@ -38,7 +38,7 @@ impl Arithmetic {
 
     /// What a number leaves, divided by p.
     pub fn residue(self, n: u64) -> u64 {
-        n.checked_rem(u64::from(self.p)).unwrap_or(0)
+        n.checked_rem(self.p).unwrap_or(0)
     }
 
     fn times(self, a: u64, b: u64) -> u64 {
@@ -50,7 +50,7 @@ impl Arithmetic {
     }
 
     fn minus(self, a: u64, b: u64) -> u64 {
-        self.plus(a, u64::from(self.p).wrapping_sub(b))
+        self.plus(a, self.p.wrapping_sub(b))
     }
 
     /// The element that a whole number stands for.
@@ -77,7 +77,7 @@ impl Arithmetic {
 
     /// x × y: (a + b t)(c + d t) = (a c + w b d) + (a d + b c) t.
     pub fn product(self, x: Element, y: Element) -> Element {
-        let squared = self.times(u64::from(self.w), self.times(x.high, y.high));
+        let squared = self.times(self.w, self.times(x.high, y.high));
         Element {
             low: self.plus(self.times(x.low, y.low), squared),
             high: self.plus(self.times(x.low, y.high), self.times(x.high, y.low)),
@@ -101,9 +101,17 @@ impl Arithmetic {
 
     /// One over x, and zero at zero: in a field of q elements x^(q − 1) is 1 for every other x.
     pub fn inverse(self, x: Element) -> Element {
-        let p = u64::from(self.p);
-        let q = if self.e == 1 { p } else { p.wrapping_mul(p) };
+        let q = if self.e == 1 {
+            self.p
+        } else {
+            self.p.wrapping_mul(self.p)
+        };
         self.power(x, q.wrapping_sub(2))
+    }
+
+    /// Whether two numbers are the parts of an element.
+    pub fn has_parts(self, low: u64, high: u64) -> bool {
+        low < self.p && high < self.p && (self.e != 1 || high == 0)
     }
 
     /// The elements of these added, from the first on.

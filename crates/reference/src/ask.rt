@@ -50,9 +50,9 @@ impl Ask {
         self.fits(at) && self.size(at) >= at.rows && self.degree(at) <= GREATEST_DEGREE
     }
 
-    /// The least and the greatest claim, where weights are within a limit.
-    pub fn limits(self, limit: u32) -> Limits {
-        let most = i64::from(limit);
+    /// The least and the greatest claim, where weights are within a limit; a limit beyond every claim counts as 0.
+    pub fn limits(self, limit: u64) -> Limits {
+        let most = i64::try_from(limit).unwrap_or(0);
         match self {
             Ask::Squares => Limits {
                 least: 0,

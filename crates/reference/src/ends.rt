@@ -15,7 +15,7 @@ pub fn open_host(
     columns: u64,
     bank: &mut [i64],
 ) -> Result<Standing, Refusal> {
-    let standing = Standing::open(rows, columns, u64::from(field.limit))?;
+    let standing = Standing::open(rows, columns, field.limit)?;
     fill_front(bank, standing.cells(), 0).ok_or(Refusal::BankShort)?;
     Ok(standing)
 }
@@ -27,7 +27,7 @@ pub fn open_verifier(
     columns: u64,
     bank: &mut [Element],
 ) -> Result<Standing, Refusal> {
-    let standing = Standing::open(rows, columns, u64::from(field.limit))?;
+    let standing = Standing::open(rows, columns, field.limit)?;
     fill_front(bank, columns, Element::ZERO).ok_or(Refusal::BankShort)?;
     Ok(standing)
 }

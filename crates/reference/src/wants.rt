@@ -12,8 +12,8 @@ impl Game {
         wants.extend_from_slice(&[
             Want::Text("("),
             Want::Text("sheet"),
-            Want::Number(u64::from(self.field.p), Fault::Field),
-            Want::Number(u64::from(self.field.e), Fault::Field),
+            Want::Number(self.field.p, Fault::Field),
+            Want::Number(self.field.e, Fault::Field),
             Want::Text("("),
             Want::Text("grid"),
             Want::Number(self.at.rows, Fault::Grid),
@@ -45,7 +45,7 @@ impl Game {
     fn add_value(self, wants: &mut Vec<Want>, j: u64) -> Result<(), AllocError> {
         let low = Limits {
             least: 0,
-            greatest: i64::from(self.field.p) - 1,
+            greatest: i64::try_from(self.field.p).unwrap_or(0).wrapping_sub(1),
         };
         let high = match self.field.e {
             1 => Limits {

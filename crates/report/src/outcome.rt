@@ -1,7 +1,9 @@
 // What a call came to, alike for the product and for the reference.
+ghost use Rattle.std.specs.Prelude.{◌≡◌};
+ghost use Rattle.report.specs.Outcomes.{numbered, shown_number};
+
 use crate::refused::Refused;
 use reference::Stop;
-use std::alloc::AllocError;
 
 /// What a call gave, or why it refused.
 pub type Outcome<T> = Result<T, Refused>;
@@ -11,13 +13,9 @@ pub fn found<T>(answer: Result<T, refusal::Refusal>) -> Outcome<T> {
     answer.map_err(Refused::from)
 }
 
-/// What a call of the reference came to, unless there was no memory for it.
-pub fn wanted<T>(answer: Result<T, Stop>) -> Result<Outcome<T>, AllocError> {
-    match answer {
-        Ok(given) => Ok(Ok(given)),
-        Err(Stop::Refused(refusal)) => Ok(Err(Refused::from(refusal))),
-        Err(Stop::Memory(e)) => Err(e),
-    }
+/// What a call of the reference came to. Where it had no memory, that has a number that no refusal has.
+pub fn wanted<T>(answer: Result<T, Stop>) -> Outcome<T> {
+    answer.map_err(Refused::from)
 }
 
 /// The outcome without what was given.
@@ -26,9 +24,18 @@ pub fn bare<T>(outcome: &Outcome<T>) -> Outcome<()> {
 }
 
 /// The outcome without what was given, its refusal by the number alone.
-pub fn number_of<T>(outcome: &Outcome<T>) -> Result<(), u64> {
+pub fn number_of<T>(outcome: &Outcome<T>) -> Result<(), u64>
+    ensures { result ≡ numbered outcome.now }
+{
     outcome
         .as_ref()
         .map(|_| ())
         .map_err(|refused| refused.number)
+}
+
+// What a difference shows of it: 0 where the call was granted (no refusal has this number), or the refusal's number.
+pub(crate) fn shown(came: Result<(), u64>) -> u64
+    ensures { result ≡ shown_number came }
+{
+    came.err().unwrap_or(0)
 }

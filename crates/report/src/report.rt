@@ -1,10 +1,11 @@
 // What was compared, what came of it, and every difference.
 ghost use Rattle.std.specs.Prelude.{◌≡◌, ◌≢◌, ◌<◌, ◌≤◌, true, false};
+ghost use Rattle.report.specs.Outcomes.{numbered, shown_number, same_outcome};
 
 use crate::call::Call;
 use crate::counts::Counts;
 use crate::difference::Difference;
-use crate::outcome::{Outcome, number_of};
+use crate::outcome::{Outcome, number_of, shown};
 use std::alloc::Global;
 use std::marker::Model;
 
@@ -85,9 +86,9 @@ impl Report {
     /// Holds an outcome to one that was granted, which a difference shows as 0 (no refusal has this number), or to a
     /// refusal's number.
     pub fn number<T>(&mut self, what: &'static str, found: &Outcome<T>, wanted: Result<(), u64>)
+        ensures seen { shown_number (numbered found.now) ≢ shown_number wanted → 0 < self.new }
         ensures kept { self.old ≤ self.new }
     {
-        let shown = |came: Result<(), u64>| came.err().unwrap_or(0);
         self.same(what, shown(number_of(found)), shown(wanted));
     }
 
@@ -99,11 +100,13 @@ impl Report {
         found: &Outcome<T>,
         wanted: &Outcome<T>,
     )
+        ensures seen { same_outcome T.eq found.now wanted.now ≡ false → 0 < self.new }
+        ensures numbers { shown_number (numbered found.now) ≢ shown_number (numbered wanted.now) → 0 < self.new }
         ensures kept { self.old ≤ self.new }
     {
         let number = number_of(found);
         self.outcomes[call as usize].add(number);
-        if number == number_of(wanted) {
+        if shown(number) == shown(number_of(wanted)) {
             self.holds(what, found == wanted);
         } else {
             self.number(what, found, number_of(wanted));
