@@ -1,16 +1,15 @@
 -- Putting bytes on the paper, one after another. Assumes nothing.
-use Rattle.std.proofs.Common.{true, cond, ◌≡◌, ℕ, ◌+◌, ◌-◌, ◌/◌, ◌%◌, ◌^◌, ◌<◌, ◌≤◌, Bool, List, [], ◌∷◌, ◌++◌, map, length, get_or, take, drop, ℤ, pos, negsuc, nat_abs, ◌<ℤ◌, decimal, sym, refl, ap, ◌∙◌, subst, append_assoc, append-nil, arith, length-append, length-drop, length-take-le, take-append-drop}
+use Rattle.std.proofs.Common.{◌≡◌, ℕ, ◌+◌, ◌-◌, ◌/◌, ◌%◌, ◌^◌, ◌<◌, ◌≤◌, Bool, List, [], ◌∷◌, ◌++◌, map, length, get_or, take, drop, ℤ, pos, negsuc, nat_abs, ◌<ℤ◌, decimal, sym, refl, ap, ◌∙◌, subst, append_assoc, append-nil, arith, length-append, length-drop, length-take-le, take-append-drop}
 use borrow.Rule.Slice.PartMut.{put_mid}
 use Rattle.std.specs.Fmt.{signed_decimal}
 use Rattle.std.proofs.lemmas.Fmt.{decimal_step}
 use Rattle.std.proofs.lemmas.List.{drop-drop, drop_more}
 use Rattle.std.proofs.lemmas.Int.{ints}
-use Rattle.std.proofs.lemmas.Bool.{and_from}
 use Rattle.std.proofs.lemmas.Slice.{take-put_mid, drop-put_mid}
 use Rattle.text.specs.Items.{Item, Item.the, Item.given, Item.stated, stated_count_of, stated_count}
 use Rattle.text.specs.Marks.{Mark, Mark.number, item_mark, marks}
 use Rattle.text.proofs.Passes.{count_next}
-use Rattle.writer.specs.Texts.{mark_bytes, spaced_bytes, spaced_before, spaced_after, written_on}
+use Rattle.writer.specs.Texts.{spaced_bytes, spaced_after, written_on}
 use Rattle.writer.specs.Papers.{Lays}
 
 pub lays_bytes : (bs xs ys : List ℕ) (at : ℕ) → ys ≡ bs → at + length bs ≤ length xs → Lays bs xs at (put_mid at (at + length bs - at) xs ys) (at + length bs)
@@ -108,26 +107,18 @@ module _ {X : Type 0} (f : X → Item) (xs : List X) (i : ℕ) (d : X) (lt : i <
   abbrev rest : List Mark
   rest = marks (map f (drop (i + 1) xs)) (drop (stated_count_of (f (get_or xs i d))) zs)
 
-  item_next : written_on space (marks (map f (drop i xs)) zs) ≡ spaced_bytes space (item_mark (f (get_or xs i d)) n) ++ written_on (spaced_after (item_mark (f (get_or xs i d)) n)) rest
+  pub item_next : written_on space (marks (map f (drop i xs)) zs) ≡ spaced_bytes space (item_mark (f (get_or xs i d)) n) ++ written_on (spaced_after (item_mark (f (get_or xs i d)) n)) rest
   item_next =
       ap (λ ys. written_on space (marks (map f ys) zs)) (drop_more xs i d lt)
       ∙ ap (written_on space) (marks_next (f (get_or xs i d)) (map f (drop (i + 1) xs)) zs n enough n-is)
 
+  pub item_first : length (written_on space (marks (map f (drop i xs)) zs)) ≡ length (spaced_bytes space (item_mark (f (get_or xs i d)) n)) + length (written_on (spaced_after (item_mark (f (get_or xs i d)) n)) rest)
+  item_first = ap length item_next ∙ length-append (spaced_bytes space (item_mark (f (get_or xs i d)) n)) (written_on (spaced_after (item_mark (f (get_or xs i d)) n)) rest)
+
   -- with the space and the count as the code has them
   module _ (space' : Bool) (k : ℕ) (s-is : space' ≡ spaced_after (item_mark (f (get_or xs i d)) n)) (k-is : k ≡ stated_count_of (f (get_or xs i d))) where
-    item_on : written_on space (marks (map f (drop i xs)) zs) ≡ spaced_bytes space (item_mark (f (get_or xs i d)) n) ++ written_on space' (marks (map f (drop (i + 1) xs)) (drop k zs))
+    pub item_on : written_on space (marks (map f (drop i xs)) zs) ≡ spaced_bytes space (item_mark (f (get_or xs i d)) n) ++ written_on space' (marks (map f (drop (i + 1) xs)) (drop k zs))
     item_on = item_next ∙ sym (λ j. spaced_bytes space (item_mark (f (get_or xs i d)) n) ++ written_on (s-is j) (marks (map f (drop (i + 1) xs)) (drop (k-is j) zs)))
 
     pub item_left : length (written_on space (marks (map f (drop i xs)) zs)) ≡ length (spaced_bytes space (item_mark (f (get_or xs i d)) n)) + length (written_on space' (marks (map f (drop (i + 1) xs)) (drop k zs)))
     item_left = ap length item_on ∙ length-append (spaced_bytes space (item_mark (f (get_or xs i d)) n)) (written_on space' (marks (map f (drop (i + 1) xs)) (drop k zs)))
-
-    pub item_put : {total before paper after : List ℕ} {at end end' : ℕ} → Putting total before at paper end (written_on space (marks (map f (drop i xs)) zs)) → Lays (spaced_bytes space (item_mark (f (get_or xs i d)) n)) paper end after end'
-        → Putting total before at after end' (written_on space' (marks (map f (drop (i + 1) xs)) (drop k zs)))
-    item_put p l = putting_more p (spaced_bytes space (item_mark (f (get_or xs i d)) n)) _ item_on l
-
-  pub item_room : {total before paper : List ℕ} {at end : ℕ} → Putting total before at paper end (written_on space (marks (map f (drop i xs)) zs)) → end + length (spaced_bytes space (item_mark (f (get_or xs i d)) n)) ≤ at + length total
-  item_room p = putting_room p (spaced_bytes space (item_mark (f (get_or xs i d)) n)) _ item_next
-
--- a space, where both neighbours allow it
-pub with_space : (space : Bool) (m : Mark) → space ≡ true → spaced_before m ≡ true → 32 ∷ mark_bytes m ≡ spaced_bytes space m
-with_space space m s b = ap (λ t. cond t (32 ∷ []) [] ++ mark_bytes m) (sym (and_from space (spaced_before m) s b))

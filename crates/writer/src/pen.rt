@@ -1,14 +1,14 @@
 // A pen over paper of the caller's: it puts bytes where it is, for which there is room, and goes on
 // behind them.
-ghost use Rattle.std.specs.Prelude.{◌≡◌, ◌≤◌, ◌↔◌, [], ◌∷◌, map, length, decimal, IsTrue, OnOk, OnErr};
+ghost use Rattle.std.specs.Prelude.{◌≡◌, ℕ, ◌+◌, ◌<◌, ◌≤◌, ◌↔◌, List, [], ◌∷◌, map, length, drop, decimal, IsTrue, OnOk, OnErr, if◌then◌else◌};
 ghost use Rattle.std.specs.Fmt.{signed_decimal};
 ghost use Rattle.text.specs.Items.{stated_count};
-ghost use Rattle.text.specs.Marks.{item_mark};
+ghost use Rattle.text.specs.Marks.{item_mark, marks};
 ghost use Rattle.text.specs.Meanings.{item_of};
-ghost use Rattle.writer.specs.Texts.{mark_bytes, spaced_bytes, form_text};
+ghost use Rattle.writer.specs.Texts.{mark_bytes, spaced_bytes, written_on, form_text};
 
 use crate::measure::spaced_length;
-use crate::spaces::{first_or_zero, spaced_after, spaced_before, stated_count_of};
+use crate::spaces::{first_or_zero, spaced_after, spaced_between, stated_count_of};
 use refusal::Refusal;
 use text::Item;
 
@@ -20,7 +20,7 @@ pub struct Pen<'a> {
 }
 
 impl<'a> Pen<'a> {
-    ghost use Rattle.writer.specs.Papers.{paper_of, place_of, Room, Puts, put_answer};
+    ghost use Rattle.writer.specs.Papers.{paper_of, place_of, Lays, Room, Puts, put_answer};
 
     /// A pen at the start of the paper.
     pub fn new(paper: &'a mut [u8]) -> Pen<'a>
@@ -38,6 +38,7 @@ impl<'a> Pen<'a> {
         self.at
     }
 
+    #[inline(always)]
     fn byte(&mut self, byte: u8)
         requires { Room (byte ∷ []) self.old }
         ensures { Puts (byte ∷ []) self.old self.new }
@@ -64,7 +65,13 @@ impl<'a> Pen<'a> {
         if n < 10 {
             return self.byte(b'0' + n as u8);
         }
-        self.decimal(n / 10);
+        let tens = n / 10;
+        if tens < 10 {
+            self.byte(b'0' + tens as u8);
+            return self.byte(b'0' + (n % 10) as u8);
+        }
+        self.decimal(tens / 10);
+        self.byte(b'0' + (tens % 10) as u8);
         self.byte(b'0' + (n % 10) as u8);
     }
 
@@ -82,6 +89,7 @@ impl<'a> Pen<'a> {
     }
 
     // An item, with the number that may be stated there.
+    #[inline(always)]
     fn item(&mut self, item: Item, number: i64)
         requires { Room (mark_bytes (item_mark (item_of item) number)) self.old }
         ensures { Puts (mark_bytes (item_mark (item_of item) number)) self.old self.new }
@@ -97,31 +105,84 @@ impl<'a> Pen<'a> {
         }
     }
 
+    // A space, or nothing.
+    #[inline(always)]
+    fn gap(&mut self, space: bool)
+        requires { Room (if space then 32 ∷ [] else []) self.old }
+        ensures { Puts (if space then 32 ∷ [] else []) self.old self.new }
+    {
+        if space {
+            self.byte(b' ');
+        }
+    }
+
     // An item, after a space where both neighbours allow it.
+    #[inline(always)]
     fn spaced(&mut self, space: bool, item: Item, number: i64)
         requires { Room (spaced_bytes space (item_mark (item_of item) number)) self.old }
         ensures { Puts (spaced_bytes space (item_mark (item_of item) number)) self.old self.new }
     {
-        if space && spaced_before(item) {
-            self.byte(b' ');
-            self.item(item, number)
-        } else {
-            self.item(item, number)
-        }
+        self.gap(spaced_between(space, item));
+        self.item(item, number);
     }
 
-    // The items of a line, with these numbers.
+    // Item i of a line, if there is one, with the first of the numbers that are left: whether a space
+    // may follow it, and the numbers that are left behind it. There is room for it and all behind it.
+    #[inline(always)]
+    fn put_item<'n>(
+        &mut self,
+        space: bool,
+        items: &[Item],
+        i: usize,
+        numbers: &'n [i64],
+    ) -> (bool, &'n [i64])
+        requires numbers { stated_count (map item_of (drop i items.now)) ≤ length numbers.now }
+        requires room { Room
+            (written_on space (marks (map item_of (drop i items.now)) numbers.now)) self.old }
+        ensures numbers { stated_count (map item_of (drop (i + 1) items.now))
+            ≤ length result.1.now }
+        ensures room { Room
+            (written_on result.0 (marks (map item_of (drop (i + 1) items.now)) result.1.now))
+            self.new }
+        ensures line { (paper : List ℕ) (end : ℕ)
+            → Lays (written_on result.0 (marks (map item_of (drop (i + 1) items.now)) result.1.now))
+            (paper_of self.new) (place_of self.new) paper end
+            → Lays (written_on space (marks (map item_of (drop i items.now)) numbers.now))
+            (paper_of self.old) (place_of self.old) paper end }
+        ensures lender { self.new.paper.ghost_name ≡ self.old.paper.ghost_name }
+    {
+        if i >= items.len() {
+            return (space, numbers);
+        }
+        let item = items[i];
+        self.spaced(space, item, first_or_zero(numbers));
+        let left = &numbers[stated_count_of(item)..];
+        (spaced_after(item), left)
+    }
+
+    // The items of a line, with these numbers. So many as a line of a sheet has are put one by one and
+    // not in a loop: inlined where a line is written, each is then known.
+    #[inline(always)]
     pub(crate) fn put_items(&mut self, items: &[Item], numbers: &[i64])
         requires numbers { stated_count (map item_of items.now) ≤ length numbers.now }
         requires room { Room (form_text (map item_of items.now) numbers.now) self.old }
         ensures { Puts (form_text (map item_of items.now) numbers.now) self.old self.new }
     {
-        let mut space = false;
-        let mut rest = numbers;
-        for item in items {
-            self.spaced(space, *item, first_or_zero(rest));
-            space = spaced_after(*item);
-            rest = &rest[stated_count_of(*item)..];
+        let (space, rest) = self.put_item(false, items, 0, numbers);
+        let (space, rest) = self.put_item(space, items, 1, rest);
+        let (space, rest) = self.put_item(space, items, 2, rest);
+        let (space, rest) = self.put_item(space, items, 3, rest);
+        let (space, rest) = self.put_item(space, items, 4, rest);
+        let (space, rest) = self.put_item(space, items, 5, rest);
+        let (space, rest) = self.put_item(space, items, 6, rest);
+        let (space, rest) = self.put_item(space, items, 7, rest);
+        let (space, rest) = self.put_item(space, items, 8, rest);
+        let (space, rest) = self.put_item(space, items, 9, rest);
+        let (mut space, mut rest) = self.put_item(space, items, 10, rest);
+        for i in 11..items.len() {
+            let next = self.put_item(space, items, i, rest);
+            space = next.0;
+            rest = next.1;
         }
     }
 

@@ -1,36 +1,36 @@
-use Rattle.std.proofs.Common.{◌∙◌, arith, w64, SFits, to_z, of_z, rules}
-use Rattle.std.proofs.lemmas.Int.{to_z-of_z}
-use Rattle.std.proofs.lemmas.List.{take_rest}
-use lib.ListN.{length-drop}
-use Rattle.text.specs.declared.item.Item.TheVariants.{Open}
+use Rattle.std.proofs.Common.{map, refl, sym, ap, ◌∙◌, arith}
+use Rattle.std.proofs.lemmas.List.{drop_all}
+use Rattle.text.specs.Marks.{marks}
 use Rattle.text.specs.Meanings.{item_of}
-use Rattle.text.proofs.Passes.{count_next}
-use Rattle.writer.proofs.Papers.{putting_length, item_room, item_put}
+use Rattle.writer.specs.Texts.{written_on}
+use Rattle.writer.proofs.Papers.{lays_none, lays_as}
 use Rattle.writer.proofs.pen.Pen.put_items.Goals as goal
 
--- there is room for the next item, since there is for all that is left
-pub spaced-requires : goal.spaced-requires
-spaced-requires c =
-    let f : SFits w64 c.first_or_zero.result = search rules in
-    let r = item_room item_of c.args.items.now c.loop-item.item-index Open c.loop-item-test.true c.loop-item.space c.loop-item.rest.now c.loop-item.invariant.enough
-    (to_z w64 (of_z w64 c.first_or_zero.result)) (to_z-of_z w64 c.first_or_zero.result f ∙ c.first_or_zero.ensures) c.loop-item.invariant.putting in
-    let k = putting_length c.loop-item.invariant.putting c.requires.room in
-    omega arith
+pub loop-i-init : goal.loop-i-init
+loop-i-init c = record {
+  numbers = c.put_item-space-11.ensures.numbers;
+  room = c.put_item-space-11.ensures.room;
+  line = λ paper end rest. rest;
+  lender = refl;
+}
 
--- one item more is put, and the rest is to come
-pub loop-item-preserved : goal.loop-item-preserved
-loop-item-preserved c =
-    let f : SFits w64 c.first_or_zero.result = search rules in
-    let zs = c.loop-item.rest.now in
-    let next = count_next item_of c.args.items.now c.loop-item.item-index Open c.loop-item-test.true in
-    let few = c.loop-item.invariant.enough in
-    let is = c.stated_count_of.ensures in
-    let long = length-drop c.stated_count_of.result zs in
-    rw (take_rest zs c.stated_count_of.result) (record {
-      putting =
-          item_put item_of c.args.items.now c.loop-item.item-index Open c.loop-item-test.true c.loop-item.space zs few
-          (to_z w64 (of_z w64 c.first_or_zero.result)) (to_z-of_z w64 c.first_or_zero.result f ∙ c.first_or_zero.ensures)
-          c.spaced_after-space.result c.stated_count_of.result (c.spaced_after-space.ensures _) c.stated_count_of.ensures c.loop-item.invariant.putting c.spaced.ensures.lays;
-      lender = c.spaced.ensures.lender ∙ c.loop-item.invariant.lender;
-      enough = omega arith;
-    })
+pub loop-i-preserved : goal.loop-i-preserved
+loop-i-preserved c = record {
+  numbers = c.put_item-next.ensures.numbers;
+  room = c.put_item-next.ensures.room;
+  line = λ paper end rest. c.loop-i.invariant.line paper end (c.put_item-next.ensures.line paper end rest);
+  lender = c.put_item-next.ensures.lender ∙ c.loop-i.invariant.lender;
+}
+
+-- behind the last item nothing is left, so that all are put
+pub returns : goal.returns
+returns c =
+    let none = sym (ap (λ items. written_on c.loop-i.space (marks (map item_of items) c.loop-i.rest.now)) (drop_all c.loop-i.i c.args.items.now (omega arith))) in
+    let p11 = c.loop-i.invariant.line _ _ (lays_as none (lays_none _ _)) in
+    let p8 = c.put_item-space-9.ensures.line _ _ (c.put_item-space-10.ensures.line _ _ (c.put_item-space-11.ensures.line _ _ p11)) in
+    let p4 = c.put_item-space-5.ensures.line _ _ (c.put_item-space-6.ensures.line _ _ (c.put_item-space-7.ensures.line _ _ (c.put_item-space-8.ensures.line _ _ p8))) in
+    let p0 = c.put_item-space.ensures.line _ _ (c.put_item-space-2.ensures.line _ _ (c.put_item-space-3.ensures.line _ _ (c.put_item-space-4.ensures.line _ _ p4))) in
+    let l8 = c.loop-i.invariant.lender ∙ c.put_item-space-11.ensures.lender ∙ c.put_item-space-10.ensures.lender ∙ c.put_item-space-9.ensures.lender in
+    let l4 = c.put_item-space-8.ensures.lender ∙ c.put_item-space-7.ensures.lender ∙ c.put_item-space-6.ensures.lender ∙ c.put_item-space-5.ensures.lender in
+    let l0 = c.put_item-space-4.ensures.lender ∙ c.put_item-space-3.ensures.lender ∙ c.put_item-space-2.ensures.lender ∙ c.put_item-space.ensures.lender in
+    record { lays = p0; lender = l8 ∙ l4 ∙ l0 }

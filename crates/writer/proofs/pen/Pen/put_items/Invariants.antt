@@ -1,17 +1,17 @@
-use Rattle.std.proofs.Common.{◌≡◌, ◌≤◌, map, length, drop}
+use Rattle.std.proofs.Common.{◌≡◌, ◌≤◌, ℕ, List, map, length, drop}
 use Rattle.text.specs.Items.{stated_count}
 use Rattle.text.specs.Marks.{marks}
 use Rattle.text.specs.Meanings.{item_of}
-use Rattle.writer.specs.Papers.{paper_of, place_of}
-use Rattle.writer.specs.Texts.{form_text, written_on}
-use Rattle.writer.proofs.Papers.{Putting}
+use Rattle.writer.specs.Papers.{paper_of, place_of, Lays, Room}
+use Rattle.writer.specs.Texts.{written_on}
 use Rattle.writer.proofs.pen.Pen.put_items.Given as goal
 
--- the items before this one are put, and the others are to come with the numbers that are left
-abbrev pub invariant-loop-item : goal.invariant-loop-item
-invariant-loop-item l = record {
-  putting : Putting (form_text (map item_of l.items) l.numbers) (paper_of l.initial.self) (place_of l.initial.self) (paper_of l.self) (place_of l.self)
-      (written_on l.space (marks (map item_of (drop l.item-index l.items)) l.rest));
+-- there is room for the items from this one on, and with them all behind the first eleven are put
+abbrev pub invariant-loop-i : goal.invariant-loop-i
+invariant-loop-i l = record {
+  numbers : stated_count (map item_of (drop l.i l.items)) ≤ length l.rest;
+  room : Room (written_on l.space (marks (map item_of (drop l.i l.items)) l.rest)) l.self;
+  line : (paper : List ℕ) (end : ℕ) → Lays (written_on l.space (marks (map item_of (drop l.i l.items)) l.rest)) (paper_of l.self) (place_of l.self) paper end
+      → Lays (written_on l.initial.space (marks (map item_of (drop 11 l.items)) l.initial.rest)) (paper_of l.initial.self) (place_of l.initial.self) paper end;
   lender : l.self.paper.ghost_name ≡ l.initial.self.paper.ghost_name;
-  enough : stated_count (map item_of (drop l.item-index l.items)) ≤ length l.rest;
 }

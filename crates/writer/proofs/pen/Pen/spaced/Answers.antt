@@ -1,26 +1,26 @@
-use Rattle.std.proofs.Common.{◌∷◌, length, sym, ap, ◌∙◌, arith, w64}
+use Rattle.std.proofs.Common.{ℕ, cond, [], ◌∷◌, ◌++◌, length, ap, ◌∙◌, arith, w64, length-append}
 use Rattle.std.proofs.lemmas.Int.{to_z-of_z}
 use Rattle.text.specs.Marks.{item_mark}
 use Rattle.text.specs.Meanings.{item_of}
 use Rattle.writer.specs.Texts.{mark_bytes}
-use Rattle.writer.proofs.Papers.{lays_length, lays_more, lays_as, with_space}
+use Rattle.writer.proofs.Papers.{lays_length, lays_more, lays_as}
 use Rattle.writer.proofs.pen.Pen.spaced.Goals as goal
 
--- room for the item behind the space
+-- room for the item behind the space, if there is one
 pub item-requires : goal.item-requires
 item-requires c =
     let is = ap (λ z. length (mark_bytes (item_mark (item_of c.args.item) z))) (to_z-of_z w64 c.args.number c.ranges.number) in
-    let l = ap length (with_space c.args.space (item_mark (item_of c.args.item) c.args.number) c.if-space.true (sym (c.if-spaced_before.ensures c.args.number))) in
-    let k = lays_length c.byte.ensures.lays (omega arith) in
-    let i = c.byte.ensures.lays.end_is in
+    let gap = ap (λ t. length {A = ℕ} (cond t (32 ∷ []) [])) (c.spaced_between.ensures c.args.number) in
+    let l = length-append (cond c.spaced_between.result (32 ∷ []) []) (mark_bytes (item_mark (item_of c.args.item) c.args.number)) in
+    let e = ap (λ t. length (cond t (32 ∷ []) [] ++ mark_bytes (item_mark (item_of c.args.item) c.args.number))) (c.spaced_between.ensures c.args.number) in
+    let i = c.gap.ensures.lays.end_is in
+    let k = lays_length c.gap.ensures.lays (omega arith) in
     omega arith
 
-pub returns-then-spaced_before : goal.returns-then-spaced_before
-returns-then-spaced_before c =
-    let is = ap (λ z. 32 ∷ mark_bytes (item_mark (item_of c.args.item) z)) (to_z-of_z w64 c.args.number c.ranges.number) in
+pub returns : goal.returns
+returns c =
+    let is = ap (λ z. mark_bytes (item_mark (item_of c.args.item) z)) (to_z-of_z w64 c.args.number c.ranges.number) in
     record {
-      lays =
-          lays_as (is ∙ with_space c.args.space (item_mark (item_of c.args.item) c.args.number) c.if-space.true (sym (c.if-spaced_before.ensures c.args.number)))
-          (lays_more c.byte.ensures.lays c.item.ensures.lays);
-      lender = c.item.ensures.lender ∙ c.byte.ensures.lender;
+      lays = lays_as (λ j. cond (c.spaced_between.ensures c.args.number j) (32 ∷ []) [] ++ is j) (lays_more c.gap.ensures.lays c.item.ensures.lays);
+      lender = c.item.ensures.lender ∙ c.gap.ensures.lender;
     }
