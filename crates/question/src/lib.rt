@@ -5,5 +5,6 @@
 mod fit;
 mod question;
 
+pub use board::Tag;
 pub use fit::Fit;
 pub use question::Question;
