@@ -4,10 +4,12 @@
 
 mod laws;
 mod lines;
+mod places;
 mod read;
 mod write;
 
 pub use laws::toys_read_back;
+pub use places::{bracket_passed, token_found};
 pub use read::read_toy;
 pub use write::write_toy;
 
