@@ -6,6 +6,7 @@ mod laws;
 mod limits;
 mod measure;
 mod pen;
+mod put;
 mod spaces;
 mod writer;
 

@@ -8,6 +8,7 @@ ghost use Rattle.text.specs.Meanings.{item_of};
 ghost use Rattle.writer.specs.Texts.{mark_bytes, spaced_bytes, written_on, form_text};
 
 use crate::measure::spaced_length;
+use crate::put::{put_bytes, put_decimal, put_signed};
 use crate::spaces::{first_or_zero, spaced_after, spaced_between, stated_count_of};
 use refusal::Refusal;
 use text::Item;
@@ -51,28 +52,15 @@ impl<'a> Pen<'a> {
         requires { Room bytes.now self.old }
         ensures { Puts bytes.now self.old self.new }
     {
-        let end = self.at + bytes.len();
-        self.paper[self.at..end].copy_from_slice(bytes);
-        self.at = end;
+        self.at = put_bytes(self.paper, self.at, bytes);
     }
 
-    // A natural number in decimal, by hand: a `write!` may fail, and this may not.
-    #[tactic(auto, using(std::proofs::lemmas::Fmt::decimal_digit, std::proofs::lemmas::Fmt::decimal_nonempty, crate::proofs::Papers::front_fits, crate::proofs::Papers::lays_length, crate::proofs::Papers::lays_as))]
+    // A natural number in decimal.
     fn decimal(&mut self, n: u64)
         requires { Room (decimal n) self.old }
         ensures { Puts (decimal n) self.old self.new }
     {
-        if n < 10 {
-            return self.byte(b'0' + n as u8);
-        }
-        let tens = n / 10;
-        if tens < 10 {
-            self.byte(b'0' + tens as u8);
-            return self.byte(b'0' + (n % 10) as u8);
-        }
-        self.decimal(tens / 10);
-        self.byte(b'0' + (tens % 10) as u8);
-        self.byte(b'0' + (n % 10) as u8);
+        self.at = put_decimal(self.paper, self.at, n);
     }
 
     // A whole number in decimal.
@@ -80,12 +68,7 @@ impl<'a> Pen<'a> {
         requires { Room (signed_decimal z) self.old }
         ensures { Puts (signed_decimal z) self.old self.new }
     {
-        if z < 0 {
-            self.byte(b'-');
-            self.decimal(z.unsigned_abs())
-        } else {
-            self.decimal(z.unsigned_abs())
-        }
+        self.at = put_signed(self.paper, self.at, z);
     }
 
     // An item, with the number that may be stated there.
