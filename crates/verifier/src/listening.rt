@@ -28,17 +28,22 @@ impl<F> Model for Listening<F> {
     ghost view = { λ listening. record { standing = listening.book; point = listening.point } };
 }
 
-// What a move on the board adds to its column at the point.
+// What a move on the board adds to its column at the point: on one row the amount, since the basis polynomial is then one.
 fn share_of<F: Field>(grid: Grid, point: F, m: Move) -> F
     requires inside { m.cell < grid.rows * grid.columns }
     requires small { unsigned_abs m.amount ≤ 256 }
     ensures { result ≡ move_share F.Field.model grid.rows grid.columns point m }
 {
+    let amount = F::image(m.amount as i32);
+    if grid.rows == 1 {
+        return amount;
+    }
     let row = grid.row_of(m.cell) as u32;
-    F::image(m.amount as i32) * basis_at(grid.rows, row, point)
+    amount * basis_at(grid.rows, row, point)
 }
 
 // Adds the share of a move on the board to its column.
+#[inline(always)]
 fn add_share<F: Field>(bank: &mut Bank<'_, F>, grid: Grid, point: F, m: Move) -> Result<(), Refusal>
     requires inside { m.cell < grid.rows * grid.columns }
     requires small { unsigned_abs m.amount ≤ 256 }
@@ -78,6 +83,8 @@ impl<F: Field> Listening<F> {
 
     /// Adds a move to its column. It refuses a bank with too few cells with 12, and then the move with 1, 2, 3; a refusal changes
     /// nothing.
+    // Inlined with `add_share`: on few rows to hand over a move would cost as much as to add it.
+    #[inline(always)]
     pub fn note(&mut self, bank: &mut Bank<'_, F>, m: Move) -> Result<(), Refusal>
         ensures answer { result
             ≡ verifier_note_answer F.Field.model self.old.standing (cells_of bank.old) m }
