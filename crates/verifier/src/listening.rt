@@ -29,6 +29,7 @@ impl<F> Model for Listening<F> {
 }
 
 // What a move on the board adds to its column at the point: on one row the amount, since the basis polynomial is then one.
+#[inline(always)]
 fn share_of<F: Field>(grid: Grid, point: F, m: Move) -> F
     requires inside { m.cell < grid.rows * grid.columns }
     requires small { unsigned_abs m.amount ≤ 256 }
@@ -83,7 +84,7 @@ impl<F: Field> Listening<F> {
 
     /// Adds a move to its column. It refuses a bank with too few cells with 12, and then the move with 1, 2, 3; a refusal changes
     /// nothing.
-    // Inlined with `add_share`: on few rows to hand over a move would cost as much as to add it.
+    // Inlined with what it calls here: on few rows to hand over a move would cost as much as to add it.
     #[inline(always)]
     pub fn note(&mut self, bank: &mut Bank<'_, F>, m: Move) -> Result<(), Refusal>
         ensures answer { result
